@@ -1,0 +1,80 @@
+//! The bytes of a frame.
+ghost use Rattle.std.specs.Prelude.{◌≡◌, ◌<◌, ◌≤◌, ◌+◌, ◌-◌, ◌++◌, length, take, drop, slice_set, IfOk, IsOk, OnOk, OnErr};
+
+use crate::limits::MAX_FRAME_BYTES;
+use crate::refusal::NoMemory;
+use std::alloc::Global;
+use std::marker::Model;
+
+/// A frame's bytes, at most [`MAX_FRAME_BYTES`].
+#[derive(Debug, Drop)]
+pub struct Packet {
+    bytes: Vec<u8>,
+}
+
+impl Model for Packet {
+    ghost use Rattle.std.specs.Prelude.{List, ℕ, length, ◌≤◌};
+    ghost use Rattle.onvm_base.specs.declared.limits.TheConstants.{MAX_FRAME_BYTES};
+
+    ghost Value = { List ℕ };
+
+    ghost view = { λ p. p.bytes.items };
+
+    ghost invariant = { λ p. length p.bytes.items ≤ MAX_FRAME_BYTES };
+}
+
+impl Packet {
+    /// A packet of these bytes.
+    pub fn from_slice(alloc: Global, bytes: &[u8]) -> Result<Packet, NoMemory>
+        requires { length bytes.now ≤ MAX_FRAME_BYTES }
+        ensures { IfOk result (λ p. p ≡ bytes.now) }
+    {
+        let bytes = Vec::from_slice(alloc, bytes)?;
+        Ok(Packet { bytes })
+    }
+
+    /// Its bytes.
+    pub fn bytes(&self) -> &[u8]
+        ensures same { result.now ≡ self.now }
+        ensures limit { length self.now ≤ MAX_FRAME_BYTES }
+    {
+        &self.bytes
+    }
+
+    /// Puts other bytes in the place of those from `from` up to `upto`.
+    pub fn replace(&mut self, from: usize, upto: usize, with: &[u8]) -> Result<(), NoMemory>
+        requires start { from ≤ upto }
+        requires within { upto ≤ length self.old }
+        requires limit { from + length with.now + (length self.old - upto) ≤ MAX_FRAME_BYTES }
+        ensures ok { OnOk result (self.new ≡ take from self.old ++ with.now ++ drop upto self.old) }
+        ensures err { OnErr result (self.new ≡ self.old) }
+
+        // Taking bytes out needs no memory.
+        ensures removes { length with.now ≡ 0 → IsOk result }
+    {
+        self.bytes.extend_from_slice(with)?;
+        exchange(&mut self.bytes, from, upto);
+        self.bytes.truncate(self.bytes.len() - (upto - from));
+        let mid = self.bytes.len() - with.len();
+        exchange(&mut self.bytes, from, mid);
+        Ok(())
+    }
+
+    /// Writes one byte.
+    pub fn set(&mut self, at: usize, byte: u8)
+        requires { at < length self.old }
+        ensures { self.new ≡ slice_set self.old at byte }
+    {
+        self.bytes[at] = byte;
+    }
+}
+
+// Exchanges the bytes from `from` up to `mid` with all that lie behind them.
+fn exchange(bytes: &mut [u8], from: usize, mid: usize)
+    requires start { from ≤ mid }
+    requires within { mid ≤ length bytes.old }
+    ensures { bytes.new ≡ take from bytes.old ++ drop mid bytes.old ++ take (mid - from) (drop from bytes.old) }
+{
+    let behind = &mut bytes[from..];
+    behind.rotate_left(mid - from);
+}

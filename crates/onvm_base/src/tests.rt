@@ -1,0 +1,28 @@
+//! What no clause says.
+use crate::{ListOf, Packet};
+use std::test::Fail;
+
+#[test]
+fn a_packet_grows_and_shrinks_in_its_middle(rt: HostRuntime) -> Result<(), Fail> {
+    let mut packet = Packet::from_slice(rt.alloc(), &[1, 2, 3, 4])?;
+    packet.replace(1, 3, &[7, 8, 9])?;
+    assert_eq!(rt; packet.bytes(), [1, 7, 8, 9, 4].as_slice());
+    packet.set(0, 5);
+    packet.replace(1, 4, &[])?;
+    assert_eq!(rt; packet.bytes(), [5, 4].as_slice());
+    Ok(())
+}
+
+#[test]
+fn room_that_was_made_takes_as_many_items(rt: HostRuntime) -> Result<(), Fail> {
+    let mut list = ListOf::make(rt.alloc());
+    list.reserve(3)?;
+    for item in [4u8, 5, 6] {
+        list.push(item)?;
+    }
+    assert_eq!(rt; list.as_slice(), [4, 5, 6].as_slice());
+    assert_eq!(rt; list.pop(), Some(6));
+    assert_eq!(rt; list.get(1), Some(&5));
+    assert_eq!(rt; list.get(2), None);
+    Ok(())
+}

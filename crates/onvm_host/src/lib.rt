@@ -1,0 +1,15 @@
+//! What onvm asks of the outside.
+//!
+//! A *source* gives bytes, a *sink* takes them, and a *host* has files and a place to say things.
+//! Each counts its *faults*: a call answers Failed only where the count rose. Each may *tell* its
+//! content, and where it does, contracts say which bytes came and went. A *clock* answers moments
+//! and spans in nanoseconds. A *gate* is called before each pass of a role.
+#![tactic(auto)]
+
+mod clock;
+mod fault;
+mod traits;
+
+pub use clock::{Clock, Gate, OpenGate, StepClock};
+pub use fault::HostFault;
+pub use traits::{Host, Sink, Source};

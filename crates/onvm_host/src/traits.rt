@@ -1,0 +1,114 @@
+//! Bytes that come and go, files, and what is said.
+ghost use Rattle.std.specs.Prelude.{◌≡◌, ◌≤◌, ◌<◌, List, [], ℕ, length, IfOk, IsSome, OnErr, Option, option_map, Some};
+ghost use Rattle.std.specs.Io.{ReadsAtMost, WritesAtMost};
+ghost use Rattle.std.specs.Io.KnownBytes.{ReadConsumes, WriteAppends};
+ghost use Rattle.onvm_host.specs.Causes.{HasCause, HasHostCause, Rose, SameNames};
+ghost use Rattle.onvm_host.specs.Files.{Entries, kept_files, Opens, put_file};
+
+use crate::fault::HostFault;
+use onvm_base::Failed;
+
+/// Bytes that come in.
+pub trait Source {
+    /// The bytes that are left, where the source tells them.
+    ghost left: { Self → Option (List ℕ) };
+
+    /// How often a call has failed.
+    ghost faults: { Self → ℕ };
+
+    /// Moves the next bytes to the front of `into`: none only at the end, or for an empty `into`.
+    fn take(&mut self, into: &mut [u8]) -> Result<usize, Failed>
+        ensures bound { ReadsAtMost result into.new }
+        ensures bytes { ReadConsumes (left self.old) (left self.new) result into.new }
+        ensures cause { HasCause (faults self.old) (faults self.new) result };
+}
+
+/// Bytes that go out.
+pub trait Sink {
+    /// The bytes that it holds, where it tells them.
+    ghost held: { Self → Option (List ℕ) };
+
+    /// The name of the file that it becomes.
+    ghost name: { Self → List ℕ };
+
+    /// How often a call has failed.
+    ghost faults: { Self → ℕ };
+
+    /// Appends the first bytes of the piece, at least one of a piece that is not empty.
+    fn put(&mut self, piece: &[u8]) -> Result<usize, Failed>
+        ensures bound { WritesAtMost result piece.now }
+        ensures some { IfOk result (λ n. 0 < length piece.now → 0 < n) }
+        ensures bytes { WriteAppends (held self.old) (held self.new) result piece.now }
+        ensures named { name self.new ≡ name self.old }
+        ensures cause { HasCause (faults self.old) (faults self.new) result };
+}
+
+/// Files and a place to say things.
+pub trait Host {
+    type Input: Source + Send + Drop;
+
+    type Output: Sink + Drop;
+
+    /// The files, where the host tells them.
+    ghost files: { Self → Option Entries };
+
+    /// What was said, where the host tells it.
+    ghost said: { Self → Option (List ℕ) };
+
+    /// How often a call has failed.
+    ghost faults: { Self → ℕ };
+
+    /// Which names may be opened.
+    ghost may_open: { Self → List ℕ → Type 0 };
+
+    /// Which names may be created.
+    ghost may_create: { Self → List ℕ → Type 0 };
+
+    /// Opens a file. A name without one is a fault.
+    fn open_input(&mut self, name: &str) -> Result<Self::Input, HostFault>
+        requires { may_open self.old name.now }
+        ensures left { IfOk result (λ input. Opens (files self.old) name.now (Self.Input.left input)) }
+        ensures fresh { IfOk result (λ input. Self.Input.faults input ≡ 0) }
+        ensures files { files self.new ≡ files self.old }
+        ensures said { said self.new ≡ said self.old }
+        ensures names { SameNames (may_open self.old) (may_create self.old) (may_open self.new) (may_create self.new) }
+        ensures cause { HasHostCause (faults self.old) (faults self.new) result };
+
+    /// Makes an empty file.
+    fn create_output(&mut self, name: &str) -> Result<Self::Output, HostFault>
+        requires { may_create self.old name.now }
+        ensures made { IfOk result (λ _. files self.new ≡ option_map (put_file name.now []) (files self.old)) }
+        ensures empty { IfOk result (λ output. IsSome (files self.old) → Self.Output.held output ≡ Some []) }
+        ensures named { IfOk result (λ output. Self.Output.name output ≡ name.now) }
+        ensures fresh { IfOk result (λ output. Self.Output.faults output ≡ 0) }
+        ensures err { OnErr result (files self.new ≡ files self.old) }
+        ensures said { said self.new ≡ said self.old }
+        ensures names { SameNames (may_open self.old) (may_create self.old) (may_open self.new) (may_create self.new) }
+        ensures cause { HasHostCause (faults self.old) (faults self.new) result };
+
+    /// Ends an input. Where a call of it failed, the host counts a fault.
+    fn shut(&mut self, input: Self::Input)
+        ensures files { files self.new ≡ files self.old }
+        ensures said { said self.new ≡ said self.old }
+        ensures names { SameNames (may_open self.old) (may_create self.old) (may_open self.new) (may_create self.new) }
+        ensures later { faults self.old ≤ faults self.new }
+        ensures counted { 0 < Self.Input.faults input → Rose (faults self.old) (faults self.new) };
+
+    /// Leaves under the output's name what it holds, also where it answers Failed. Where a call of
+    /// it failed, the host counts a fault.
+    fn keep(&mut self, output: Self::Output) -> Result<(), Failed>
+        ensures files { files self.new ≡ kept_files (Self.Output.name output) (Self.Output.held output) (files self.old) }
+        ensures said { said self.new ≡ said self.old }
+        ensures names { SameNames (may_open self.old) (may_create self.old) (may_open self.new) (may_create self.new) }
+        ensures cause { HasCause (faults self.old) (faults self.new) result }
+        ensures counted { 0 < Self.Output.faults output → Rose (faults self.old) (faults self.new) };
+
+    /// Says the first bytes of the piece, at least one of a piece that is not empty.
+    fn say(&mut self, piece: &[u8]) -> Result<usize, Failed>
+        ensures bound { WritesAtMost result piece.now }
+        ensures some { IfOk result (λ n. 0 < length piece.now → 0 < n) }
+        ensures bytes { WriteAppends (said self.old) (said self.new) result piece.now }
+        ensures files { files self.new ≡ files self.old }
+        ensures names { SameNames (may_open self.old) (may_create self.old) (may_open self.new) (may_create self.new) }
+        ensures cause { HasCause (faults self.old) (faults self.new) result };
+}

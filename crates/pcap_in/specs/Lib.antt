@@ -1,0 +1,3 @@
+pub mod Classic
+pub mod Emitted
+pub mod Reading
