@@ -8,6 +8,7 @@
 #![tactic(auto)]
 
 mod emit;
+mod judge;
 mod pull;
 mod reader;
 
