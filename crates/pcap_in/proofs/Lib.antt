@@ -1,2 +1,4 @@
+pub mod Grammar
 pub mod Judging
+pub mod OneAnswer
 pub mod Pulling

@@ -9,6 +9,7 @@
 
 mod emit;
 mod judge;
+pub mod laws;
 mod pull;
 mod reader;
 
