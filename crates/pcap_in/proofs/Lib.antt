@@ -2,3 +2,4 @@ pub mod Grammar
 pub mod Judging
 pub mod OneAnswer
 pub mod Pulling
+pub mod Read

@@ -1,7 +1,8 @@
 -- What a reader answers, from the bytes that no frame has used.
 use Rattle.std.specs.Prelude.{◌≡◌, ◌≢◌, ◌⊎◌, ℕ, ◌+◌, ◌<◌, ◌≤◌, Bool, true, false, List, [], ◌++◌, length, take}
+use Rattle.onvm_base.specs.declared.frame.Frame.{Frame}
 use Rattle.onvm_base.specs.declared.limits.TheConstants.{MAX_FRAME_BYTES}
-use Rattle.pcap_in.specs.Classic.{IsHeader, IsRecord, micros_magic, number}
+use Rattle.pcap_in.specs.Classic.{IsHeader, IsRecord, AreRecords, micros_magic, number}
 use Rattle.pcap_in.specs.declared.pull.PcapFault.{PcapFault}
 use Rattle.pcap_in.specs.declared.pull.PcapFault.TheVariants.{Magic, Version, Link, Torn, TooLong, Fraction}
 use Rattle.pcap_in.specs.declared.pull.Pull.{Pull}
@@ -19,6 +20,10 @@ abbrev pub AtRecord : Reading → (ℕ → List ℕ → Type 0) → Type 0
 AtRecord reading P =
     ((reading.place ≡ 0) × (header rest : List ℕ) × (reading.rest ≡ header ++ rest) × IsHeader header × P 24 rest)
     ⊎ ((0 < reading.place) × P reading.place reading.rest)
+
+-- what stands at the reader's place are the records of these frames, to their end
+abbrev pub AreLeft : Reading → List Frame → Type 0
+AreLeft reading frames = AtRecord reading (λ at rest. AreRecords rest frames)
 
 -- the bytes end inside the header
 abbrev pub EndsInHeader : Reading → Type 0

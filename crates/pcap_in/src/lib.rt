@@ -12,6 +12,8 @@ mod judge;
 pub mod laws;
 mod pull;
 mod reader;
+#[cfg(test)]
+mod tests;
 
 pub use emit::{frame_head, header};
 pub use pull::{PcapFault, Pull};
