@@ -1,15 +1,15 @@
 -- A reader has one answer.
-use Rattle.std.proofs.Common.{◌≡◌, ◌∙◌, sym, ap, subst, inl, inr, ◌⊎◌, ℕ, Bool, true, false, zero, suc, ◌+◌, ◌-◌, ◌*◌, ◌<◌, ◌≤◌, List, [], ◌∷◌, ◌++◌, length, take, drop, arith, refl, cond}
+use Rattle.std.proofs.Common.{◌≡◌, ◌∙◌, sym, ap, subst, inl, inr, ◌⊎◌, ℕ, Bool, true, false, ◌+◌, ◌<◌, ◌≤◌, List, [], ◌∷◌, ◌++◌, length, take, drop, arith, refl, cond}
 use Rattle.std.proofs.lemmas.List.{length-append, drop_at, take-append-le}
 use Rattle.onvm_base.specs.declared.frame.Frame.{Frame}
 use Rattle.onvm_base.specs.declared.limits.TheConstants.{MAX_FRAME_BYTES}
 use Rattle.pcap_in.specs.Classic.{IsHeader, IsRecord, number, micros_magic}
-use Rattle.pcap_in.specs.Reading.{Reading, Pulls, AtRecord, EndsInHeader, EndsInRecord, BreaksHeader, BreaksRecord, IsTornHeader, IsTornRecord}
+use Rattle.pcap_in.specs.Reading.{Reading, Pulls, AtRecord, EndsInRecord, BreaksHeader, BreaksRecord, IsTornHeader, IsTornRecord}
 use Rattle.pcap_in.specs.declared.pull.PcapFault.{PcapFault}
 use Rattle.pcap_in.specs.declared.pull.PcapFault.TheVariants.{Magic, Version, Link, Torn, TooLong, Fraction}
 use Rattle.pcap_in.specs.declared.pull.Pull.{Pull}
 use Rattle.pcap_in.specs.declared.pull.Pull.TheVariants as pull
-use Rattle.pcap_in.proofs.Grammar.{number-append, one_record, not_nothing}
+use Rattle.pcap_in.proofs.Grammar.{number-append, one_record}
 
 -- what is answered where the bytes end, by whether more may come and whether any is there
 abbrev pub stop_of : ℕ → List ℕ → Bool → Pull
@@ -21,7 +21,7 @@ stop_of at (byte ∷ bytes) true = pull.Bad (Torn at)
 abbrev pub InHeader : Reading → Pull → Type 0
 InHeader old answer =
     (old.place ≡ 0) × ((length old.rest < 24) × (answer ≡ cond old.finished (pull.Bad (Torn 0)) pull.More)
-      ⊎ (24 ≤ length old.rest) × (fault : PcapFault) × (answer ≡ pull.Bad fault) × BreaksHeader old.rest fault)
+    ⊎ (24 ≤ length old.rest) × (fault : PcapFault) × (answer ≡ pull.Bad fault) × BreaksHeader old.rest fault)
 
 -- the kinds of answers that a record's bytes have
 abbrev pub InRecord : Reading → Pull → Reading → ℕ → List ℕ → Type 0
@@ -29,7 +29,7 @@ InRecord old answer new at rest =
     ((new ≡ old) × EndsInRecord rest × (answer ≡ stop_of at rest old.finished))
     ⊎ ((new ≡ old) × (16 ≤ length rest) × (fault : PcapFault) × (answer ≡ pull.Bad fault) × BreaksRecord at rest fault)
     ⊎ ((frame : Frame) × (bytes : List ℕ) × (answer ≡ pull.Frame frame) × (new.finished ≡ old.finished) × (rest ≡ bytes ++ new.rest)
-      × IsRecord bytes frame × (new.place ≡ at + length bytes))
+    × IsRecord bytes frame × (new.place ≡ at + length bytes))
 
 -- a fact that follows at the reader's place holds there
 pub at_weaker : (old : Reading) (P Q : ℕ → List ℕ → Type 0) → ((at : ℕ) (rest : List ℕ) → P at rest → Q at rest)
@@ -107,21 +107,21 @@ pub kinds : (old new : Reading) (answer : Pull) → Pulls old answer new
     → ((new ≡ old) × InHeader old answer) ⊎ AtRecord old (InRecord old answer new)
 kinds old new (pull.Frame frame) (kept, there) =
     inr (at_weaker old (GivesFrame frame new) (InRecord old (pull.Frame frame) new)
-      (λ at rest fact. from_frame old new frame at rest kept fact) there)
+    (λ at rest fact. from_frame old new frame at rest kept fact) there)
 kinds old new pull.More (same, more, inl (start, short)) = inl (same, (start, inl (short, rw more refl)))
 kinds old new pull.More (same, more, inr there) =
     inr (at_weaker old (λ at rest. EndsInRecord rest) (InRecord old pull.More new)
-      (λ at rest ends. inl (same, ends, stop_more at rest old.finished more)) there)
+    (λ at rest ends. inl (same, ends, stop_more at rest old.finished more)) there)
 kinds old new pull.End (same, finished, there) =
     inr (at_weaker old (λ at rest. rest ≡ []) (InRecord old pull.End new)
-      (λ at rest none. from_end old new at rest same finished none) there)
+    (λ at rest none. from_end old new at rest same finished none) there)
 kinds old new (pull.Bad fault) (same, inl (start, whole, broken)) = inl (same, (start, inr (whole, fault, refl, broken)))
 kinds old new (pull.Bad fault) (same, inr (inl there)) =
     inr (at_weaker old (Broken fault) (InRecord old (pull.Bad fault) new) (λ at rest fact. from_broken old new fault at rest same fact) there)
 kinds old new (pull.Bad fault) (same, inr (inr (inl torn))) = inl (same, from_torn_header old fault torn)
 kinds old new (pull.Bad fault) (same, inr (inr (inr there))) =
     inr (at_weaker old (λ at rest. IsTornRecord at rest old.finished fault) (InRecord old (pull.Bad fault) new)
-      (λ at rest fact. from_torn old new fault at rest same fact) there)
+    (λ at rest fact. from_torn old new fault at rest same fact) there)
 
 -- what an accepted header says, that a broken one denies
 pub accepted : (a c : List ℕ) (fault : PcapFault) → IsHeader a → BreaksHeader (a ++ c) fault → ⊥
@@ -260,10 +260,11 @@ record_once old new new' p q at rest (inr (inr (frame, bytes, e, kept, text, is,
 record_once old new new' p q at rest (inr (inr (frame, bytes, e, kept, text, is, place))) (inr (inl (same', whole, fault, e', broken))) =
     absurd (whole_unbroken at bytes new.rest frame fault is (subst (λ (t : List ℕ). BreaksRecord at t fault) text broken))
 record_once old new new' p q at rest (inr (inr (frame, bytes, e, kept, text, is, place)))
-  (inr (inr (frame', bytes', e', kept', text', is', place'))) =
-    let one = one_record bytes bytes' new.rest new'.rest frame frame' is is' (sym text ∙ text') in
-    (e ∙ ap (λ (f : Frame). pull.Frame f) one.1 ∙ sym e',
-     reading_same new new' (place ∙ ap (λ (t : List ℕ). at + length t) one.0 ∙ sym place') one.2 (kept ∙ sym kept'))
+    (inr (inr (frame', bytes', e', kept', text', is', place'))) =
+    let one = one_record bytes bytes' new.rest new'.rest frame frame' is is' (sym text ∙ text') in (
+      e ∙ ap (λ (f : Frame). pull.Frame f) one.1 ∙ sym e',
+      reading_same new new' (place ∙ ap (λ (t : List ℕ). at + length t) one.0 ∙ sym place') one.2 (kept ∙ sym kept'),
+    )
 
 -- a reader has one answer, which leaves one reading
 pub of_kinds : (old new new' : Reading) (p q : Pull)
@@ -275,7 +276,7 @@ of_kinds old new new' p q (inl (same, header)) (inr there) = absurd (header_pass
 of_kinds old new new' p q (inr there) (inl (same, header)) = absurd (header_passed old q (InRecord old p new) header there)
 of_kinds old new new' p q (inr there) (inr there') =
     both_at old (InRecord old p new) (InRecord old q new') ((p ≡ q) × (new ≡ new')) there there'
-      (λ at rest fact fact'. record_once old new new' p q at rest fact fact')
+    (λ at rest fact fact'. record_once old new new' p q at rest fact fact')
 
 pub pulls_once : (old new new' : Reading) (p q : Pull) → Pulls old p new → Pulls old q new' → (p ≡ q) × (new ≡ new')
 pulls_once old new new' p q answer other = of_kinds old new new' p q (kinds old new p answer) (kinds old new' q other)

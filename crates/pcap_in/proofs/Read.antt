@@ -1,11 +1,11 @@
 -- A reader of a capture gives the capture's frames.
-use Rattle.std.proofs.Common.{◌≡◌, ◌∙◌, sym, ap, subst, inl, inr, ◌⊎◌, ℕ, Bool, true, ◌+◌, ◌<◌, ◌≤◌, List, [], ◌∷◌, ◌++◌, length, arith, refl}
+use Rattle.std.proofs.Common.{◌≡◌, sym, subst, inl, inr, ℕ, Bool, true, ◌+◌, ◌<◌, List, [], ◌∷◌, length, arith, refl}
 use Rattle.onvm_base.specs.declared.frame.Frame.{Frame}
-use Rattle.pcap_in.specs.Classic.{IsHeader, IsRecord, AreRecords, IsCapture}
-use Rattle.pcap_in.specs.Reading.{Reading, Pulls, AtRecord, AreLeft}
+use Rattle.pcap_in.specs.Classic.{AreRecords, IsCapture}
+use Rattle.pcap_in.specs.Reading.{Reading, Pulls, AreLeft}
 use Rattle.pcap_in.specs.declared.pull.Pull.{Pull}
 use Rattle.pcap_in.specs.declared.pull.Pull.TheVariants as pull
-use Rattle.pcap_in.proofs.OneAnswer.{at_weaker, pulls_once}
+use Rattle.pcap_in.proofs.OneAnswer.{pulls_once}
 
 -- what is left once a record at an offset is used
 abbrev pub behind : Reading → ℕ → List ℕ → List ℕ → Reading
@@ -14,14 +14,16 @@ behind old at bytes rest = record { place = at + length bytes; rest = rest; fini
 -- the first frame of the records that are left, and what its pull leaves
 pub first_pull : (old : Reading) (frame : Frame) (frames : List Frame) → AreLeft old (frame ∷ frames)
     → (new : Reading) × Pulls old (pull.Frame frame) new × AreLeft new frames
-first_pull old frame frames (inl (start, header, rest, text, is, (bytes, more, rest-is, record-is, others))) =
-    (behind old 24 bytes more,
-     (refl, inl (start, header, rest, text, is, (bytes, rest-is, record-is, refl))),
-     inr (omega arith, others))
-first_pull old frame frames (inr (later, (bytes, more, rest-is, record-is, others))) =
-    (behind old old.place bytes more,
-     (refl, inr (later, (bytes, rest-is, record-is, refl))),
-     inr (omega arith, others))
+first_pull old frame frames (inl (start, header, rest, text, is, (bytes, more, rest-is, record-is, others))) = (
+  behind old 24 bytes more,
+  (refl, inl (start, header, rest, text, is, (bytes, rest-is, record-is, refl))),
+  inr (omega arith, others),
+)
+first_pull old frame frames (inr (later, (bytes, more, rest-is, record-is, others))) = (
+  behind old old.place bytes more,
+  (refl, inr (later, (bytes, rest-is, record-is, refl))),
+  inr (omega arith, others),
+)
 
 -- what is answered where records are left
 pub answer_first : (old new : Reading) (answer : Pull) (frame : Frame) (frames : List Frame) → AreLeft old (frame ∷ frames)

@@ -87,7 +87,14 @@ fn a_capture_with_one_byte_altered_is_faulty(rt: HostRuntime) -> Result<(), Fail
         (4, 3, PcapFault::Version),
         (6, 3, PcapFault::Version),
         (20, 101, PcapFault::Link),
-        (34, 4, PcapFault::TooLong { at: 24, len: 262_160 }),
+        (
+            34,
+            4,
+            PcapFault::TooLong {
+                at: 24,
+                len: 262_160,
+            },
+        ),
         (30, 16, PcapFault::Fraction { at: 24 }),
         (32, 17, PcapFault::Torn { at: 24 }),
     ] {
