@@ -1,3 +1,4 @@
 pub mod Classic
 pub mod Emitted
+pub mod Judged
 pub mod Reading

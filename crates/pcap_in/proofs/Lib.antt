@@ -1,0 +1,5 @@
+pub mod Grammar
+pub mod Judging
+pub mod OneAnswer
+pub mod Pulling
+pub mod Read
