@@ -8,8 +8,10 @@
 
 mod clock;
 mod fault;
+mod memory;
 mod traits;
 
 pub use clock::{Clock, Gate, OpenGate, StepClock};
 pub use fault::HostFault;
+pub use memory::{Calls, MemFile, MemFiles, MemHost, MemInput, MemOutput, have_distinct_names};
 pub use traits::{Host, Sink, Source};
