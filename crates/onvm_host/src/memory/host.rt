@@ -11,8 +11,9 @@ use crate::memory::output::MemOutput;
 use crate::memory::room::Room;
 use crate::memory::tally::Tally;
 use crate::memory::written::Written;
+use crate::name::copy_of;
 use crate::traits::Host;
-use onvm_base::{Failed, ListOf, NoMemory, Text};
+use onvm_base::{Failed, ListOf, NoMemory};
 use std::alloc::Global;
 
 /// A host whose files lie in memory. Those of its calls of `open_input`, `create_output`, `keep`
@@ -89,7 +90,7 @@ impl MemHost {
         ensures fresh { IfOk result (λ output. (output.tally.calls ≡ 0) × (output.tally.faults ≡ 0)) }
     {
         Ok(MemOutput {
-            name: text_of(self.alloc, name)?,
+            name: copy_of(self.alloc, name)?,
             bytes: Room::make(self.alloc, self.space)?,
             tally: Tally::make(self.fail_of(name)?),
             node: Box::new(self.alloc, Written::End)?,
@@ -125,7 +126,7 @@ impl Host for MemHost {
     fn create_output(&mut self, name: &str) -> Result<MemOutput, HostFault> {
         self.tally.call()?;
         let output = self.output(name)?;
-        let empty = text_of(self.alloc, name)?;
+        let empty = copy_of(self.alloc, name)?;
         let node = Box::new(self.alloc, Written::End)?;
         self.written.put(empty, ListOf::make(self.alloc), node);
         Ok(output)
@@ -154,10 +155,4 @@ impl Host for MemHost {
     fn say(&mut self, piece: &[u8]) -> Result<usize, Failed> {
         self.said.place(piece, &mut self.tally)
     }
-}
-
-fn text_of(alloc: Global, name: &str) -> Result<Text, NoMemory>
-    ensures { IfOk result (λ text. text ≡ name.now) }
-{
-    Ok(ListOf::from_vec(Vec::from_slice(alloc, name.as_bytes())?))
 }

@@ -3,6 +3,7 @@ ghost use Rattle.std.specs.Prelude.{◌≡◌, ◌≤◌, ◌+◌, ◌-◌, ◌^
 ghost use Rattle.std.specs.List.{list_any};
 ghost use Rattle.onvm_host.specs.Causes.{HasCause};
 
+use crate::fault::raise;
 use crate::memory::file::Calls;
 use onvm_base::Failed;
 
@@ -45,7 +46,6 @@ impl Tally {
         ensures counted { self.new ≡ record self.old { faults = min (self.old.faults + 1) (2 ^ 64 - 1) } }
         ensures later { self.old.faults ≤ self.new.faults }
     {
-        self.faults = self.faults.saturating_add(1);
-        Failed
+        raise(&mut self.faults)
     }
 }
