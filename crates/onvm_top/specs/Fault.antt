@@ -1,6 +1,11 @@
--- How a run ends that a fault stops.
+-- How a run ends that a fault stops, and the line that says it.
+use Rattle.std.specs.Prelude.{ℕ, List, ◌++◌, ◌∷◌, [], codes}
+use Rattle.std.specs.Fmt.{decimal}
+use Rattle.onvm_base.specs.declared.ids.PortId.{PortId}
 use Rattle.onvm_base.specs.declared.status.Status.{Status}
 use Rattle.onvm_base.specs.declared.status.Status.TheVariants as status
+use Rattle.pcap_in.specs.declared.pull.PcapFault.{PcapFault}
+use Rattle.pcap_in.specs.declared.pull.PcapFault.TheVariants.{Magic, Version, Link, Torn, TooLong, Fraction}
 use Rattle.onvm_top.specs.declared.fault.Fault.{Fault}
 use Rattle.onvm_top.specs.declared.fault.Fault.TheVariants.{Words, Plan, Broken, TooMany, ReadChain, ReadCapture, Write, Memory}
 
@@ -13,3 +18,26 @@ status_of ReadChain = status.Read
 status_of (ReadCapture port) = status.Read
 status_of Write = status.Write
 status_of Memory = status.Memory
+
+-- what is wrong with a capture, and where a record is named its offset
+unfoldable pub cause_of : PcapFault → List ℕ
+cause_of Magic = codes "magic"
+cause_of Version = codes "version"
+cause_of Link = codes "link"
+cause_of (Torn at) = codes "torn " ++ decimal at
+cause_of (TooLong at len) = codes "too-long " ++ decimal at ++ codes " " ++ decimal len
+cause_of (Fraction at) = codes "fraction " ++ decimal at
+
+-- a line without its line feed
+unfoldable pub text_of : Fault → List ℕ
+text_of Words = codes "usage: onvm [--serial] [--records] [--throttle-log] [--shares] CHAIN OUT CAPTURE..."
+text_of Plan = codes "fault plan unknown file"
+text_of (Broken port fault) = codes "fault capture " ++ decimal port.0 ++ codes " " ++ cause_of fault
+text_of (TooMany port) = codes "fault capture " ++ decimal port.0 ++ codes " too-many"
+text_of ReadChain = codes "fault read chain"
+text_of (ReadCapture port) = codes "fault read " ++ decimal port.0
+text_of Write = codes "fault write"
+text_of Memory = codes "fault memory"
+
+abbrev pub line_of : Fault → List ℕ
+line_of fault = text_of fault ++ 10 ∷ []

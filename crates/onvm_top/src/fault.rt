@@ -1,11 +1,18 @@
 //! What stops a run, and the line that says it.
-ghost use Rattle.std.specs.Prelude.{◌≡◌};
+ghost use Rattle.std.specs.Prelude.{◌≡◌, ◌≤◌, ◌<◌, ◌+◌, ◌^◌, ◌++◌, length};
+ghost use Rattle.std.specs.Fmt.{decimal};
+ghost use Rattle.onvm_top.specs.Fault.{cause_of};
 
-use crate::input::CaptureFault;
 use arrayvec::ArrayString;
+use itoa::Buffer;
 use onvm_base::{PortId, Status};
 use pcap_in::PcapFault;
-use std::fmt;
+
+const USAGE: &str =
+    "usage: onvm [--serial] [--records] [--throttle-log] [--shares] CHAIN OUT CAPTURE...";
+
+/// What is said of a fault. It takes no memory.
+pub type Line = ArrayString<128>;
 
 /// What stops a run.
 #[derive(Clone, Copy, Debug, PartialEq, Eq)]
@@ -22,14 +29,14 @@ pub enum Fault {
     ReadChain,
     /// A capture could not be opened or read.
     ReadCapture(PortId),
-    /// The output could not be created, written or said.
+    /// The output could not be created or written.
     Write,
     /// Want of memory.
     Memory,
 }
 
 impl Fault {
-    ghost use Rattle.onvm_top.specs.Fault.{status_of};
+    ghost use Rattle.onvm_top.specs.Fault.{line_of, status_of, text_of};
 
     /// How a run ends that is stopped by it.
     pub fn status(&self) -> Status
@@ -46,40 +53,81 @@ impl Fault {
     }
 
     /// Its line, with a line feed.
-    pub fn line(&self) -> ArrayString<128> {
-        let mut line = ArrayString::new();
-        let _ = fmt::Write::write_fmt(&mut line, format_args!("{self}\n"));
+    pub fn line(&self) -> Line
+        ensures { result.bytes ≡ line_of self.now }
+    {
+        let mut line = self.text();
+        line.push('\n');
+        line
+    }
+
+    #[tactic(auto, unfolding(crate::specs::Fault::text_of))]
+    fn text(&self) -> Line
+        ensures text { result.bytes ≡ text_of self.now }
+        ensures short { length result.bytes ≤ 120 }
+    {
+        let mut line = Line::new();
+        match self {
+            Fault::Words => line.push_str(USAGE),
+            Fault::Plan => line.push_str("fault plan unknown file"),
+            Fault::Broken(PortId(port), fault) => {
+                push_port(&mut line, "fault capture ", *port);
+                line.push_str(" ");
+                push_cause(&mut line, fault);
+            }
+            Fault::TooMany(PortId(port)) => {
+                push_port(&mut line, "fault capture ", *port);
+                line.push_str(" too-many");
+            }
+            Fault::ReadChain => line.push_str("fault read chain"),
+            Fault::ReadCapture(PortId(port)) => push_port(&mut line, "fault read ", *port),
+            Fault::Write => line.push_str("fault write"),
+            Fault::Memory => line.push_str("fault memory"),
+        }
         line
     }
 }
 
-impl fmt::Display for Fault {
-    fn fmt<W: fmt::Write>(&self, f: &mut fmt::Formatter<W>) -> fmt::Result {
-        match self {
-            Fault::Words => f.write_str(
-                "usage: onvm [--serial] [--records] [--throttle-log] [--shares] CHAIN OUT CAPTURE...",
-            ),
-            Fault::Plan => f.write_str("fault plan unknown file"),
-            Fault::Broken(PortId(port), fault) => {
-                write!(f, "fault capture {port} ")?;
-                write_cause(f, fault)
-            }
-            Fault::TooMany(PortId(port)) => write!(f, "fault capture {port} too-many"),
-            Fault::ReadChain => f.write_str("fault read chain"),
-            Fault::ReadCapture(PortId(port)) => write!(f, "fault read {port}"),
-            Fault::Write => f.write_str("fault write"),
-            Fault::Memory => f.write_str("fault memory"),
+fn push_port(line: &mut Line, words: &str, port: u8)
+    requires { length line.old.bytes + length words.now ≤ 60 }
+    ensures text { line.new.bytes ≡ line.old.bytes ++ words.now ++ decimal port }
+    ensures short { length line.new.bytes ≤ length line.old.bytes + length words.now + 20 }
+{
+    line.push_str(words);
+    push_number(line, u64::from(port));
+}
+
+#[tactic(auto, unfolding(crate::specs::Fault::cause_of))]
+fn push_cause(line: &mut Line, fault: &PcapFault)
+    requires { length line.old.bytes ≤ 60 }
+    ensures text { line.new.bytes ≡ line.old.bytes ++ cause_of fault.now }
+    ensures short { length line.new.bytes ≤ length line.old.bytes + 60 }
+{
+    match fault {
+        PcapFault::Magic => line.push_str("magic"),
+        PcapFault::Version => line.push_str("version"),
+        PcapFault::Link => line.push_str("link"),
+        PcapFault::Torn { at } => {
+            line.push_str("torn ");
+            push_number(line, *at);
+        }
+        PcapFault::TooLong { at, len } => {
+            line.push_str("too-long ");
+            push_number(line, *at);
+            line.push_str(" ");
+            push_number(line, u64::from(*len));
+        }
+        PcapFault::Fraction { at } => {
+            line.push_str("fraction ");
+            push_number(line, *at);
         }
     }
 }
 
-fn write_cause<W: fmt::Write>(f: &mut fmt::Formatter<W>, fault: &PcapFault) -> fmt::Result {
-    match fault {
-        PcapFault::Magic => f.write_str("magic"),
-        PcapFault::Version => f.write_str("version"),
-        PcapFault::Link => f.write_str("link"),
-        PcapFault::Torn { at } => write!(f, "torn {at}"),
-        PcapFault::TooLong { at, len } => write!(f, "too-long {at} {len}"),
-        PcapFault::Fraction { at } => write!(f, "fraction {at}"),
-    }
+fn push_number(line: &mut Line, number: u64)
+    requires { length line.old.bytes ≤ 100 }
+    ensures text { line.new.bytes ≡ line.old.bytes ++ decimal number }
+    ensures short { length line.new.bytes ≤ length line.old.bytes + 20 }
+{
+    line.push_str(Buffer::new().format(number));
 }
