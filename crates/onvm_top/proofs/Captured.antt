@@ -1,5 +1,5 @@
 -- Captures that grow by a record, and the readers behind them.
-use Rattle.std.proofs.Common.{◌≡◌, ◌∙◌, sym, ap, subst, refl, ◌⊎◌, inl, inr, ℕ, ◌+◌, ◌*◌, ◌<◌, ◌≤◌, List, [], ◌∷◌, ◌++◌, length, append_assoc, arith, rules, sum_by}
+use Rattle.std.proofs.Common.{◌≡◌, ◌∙◌, sym, ap, subst, refl, ◌⊎◌, inl, inr, ℕ, Bool, true, ◌+◌, ◌*◌, ◌<◌, ◌≤◌, List, [], ◌∷◌, ◌++◌, length, append_assoc, arith, rules, sum_by}
 use Rattle.std.proofs.lemmas.List.{append-nil, length-append}
 use Rattle.std.proofs.lemmas.List.Sums.{sum_by-cons}
 use Rattle.onvm_base.specs.declared.frame.Frame.{Frame}
@@ -7,7 +7,12 @@ use Rattle.pcap_in.specs.Classic.{AreRecords, IsCapture, IsHeader, IsRecord}
 use Rattle.pcap_in.specs.Reading.{Reading, AtRecord, EndsInHeader, EndsInRecord, Pulls}
 use Rattle.pcap_in.specs.declared.pull.Pull.TheVariants as pull
 use Rattle.onvm_top.specs.Fed.{HasRead, IsBehind, EndsEarly}
-use Rattle.onvm_top.specs.Limits.{bytes_of, IsWithinLimits}
+use Rattle.pcap_in.specs.Faulty.{AreRecordsUpTo, IsCaptureUpTo}
+use Rattle.pcap_in.specs.Reading.{IsFaulty, IsTornHeader, IsTornRecord, BreaksHeader, BreaksRecord}
+use Rattle.pcap_in.specs.declared.pull.PcapFault.{PcapFault}
+use Rattle.pcap_in.specs.declared.pull.PcapFault.TheVariants.{Magic, Version, Link, Torn, TooLong, Fraction}
+use Rattle.pcap_in.proofs.Faults.{AreRecordsUpTo-behind, BreaksHeader-append, BreaksRecord-append}
+use Rattle.onvm_top.specs.Limits.{bytes_of, IsWithinLimits, PassesLimit}
 
 -- records and one more
 pub AreRecords-push : (text bytes : List ℕ) (frames : List Frame) (frame : Frame) → AreRecords text frames → IsRecord bytes frame
@@ -162,3 +167,93 @@ pub HasRead-length : (fed : List ℕ) (frames : List Frame) (reading : Reading) 
 HasRead-length fed frames reading (inl start) = omega (arith, start.0, ap length start.2)
 HasRead-length fed frames reading (inr behind) =
     omega (arith, behind.1.place, ap length behind.1.fed_is, length-append behind.1.used reading.rest)
+
+-- what is torn at the end of what was fed is torn at the end of the text
+torn_there : (at : ℕ) (rest more : List ℕ) (finished : Bool) (fault : PcapFault) → (finished ≡ true → more ≡ [])
+    → IsTornRecord at rest finished fault → IsTornRecord at (rest ++ more) true fault
+torn_there at rest more finished (Torn place) last torn =
+    let P : List ℕ → Type 0 = λ t. IsTornRecord at t true (Torn place) in
+    subst P (sym (ap (λ t. rest ++ t) (last torn.0) ∙ append-nil rest)) (refl, torn.1, torn.2, torn.3)
+torn_there at rest more finished Magic last torn = absurd torn
+torn_there at rest more finished Version last torn = absurd torn
+torn_there at rest more finished Link last torn = absurd torn
+torn_there at rest more finished (TooLong place len) last torn = absurd torn
+torn_there at rest more finished (Fraction place) last torn = absurd torn
+
+torn_header : (old : Reading) (more : List ℕ) (fault : PcapFault) → (old.finished ≡ true → more ≡ []) → IsTornHeader old fault
+    → (length (old.rest ++ more) < 24) × (fault ≡ Torn 0)
+torn_header old more (Torn place) last torn = (
+    omega (arith, length-append old.rest more, ap (length {A = ℕ}) (last torn.0), torn.2.1),
+    ap (λ n. Torn n) torn.1)
+torn_header old more Magic last torn = absurd torn
+torn_header old more Version last torn = absurd torn
+torn_header old more Link last torn = absurd torn
+torn_header old more (TooLong place len) last torn = absurd torn
+torn_header old more (Fraction place) last torn = absurd torn
+
+-- before the first frame, a fault is the text's first
+fault_at_start : (more : List ℕ) (old : Reading) (fault : PcapFault) → old.place ≡ 0 → (old.finished ≡ true → more ≡ [])
+    → IsFaulty old fault → IsCaptureUpTo (old.rest ++ more) [] fault
+fault_at_start more old fault start last (inl broken) =
+    inr (inl (refl, omega (arith, length-append old.rest more, broken.1), BreaksHeader-append old.rest more fault broken.1 broken.2))
+fault_at_start more old fault start last (inr (inl (inl at))) =
+    inr (inr (at.1, at.2 ++ more, ap (λ t. t ++ more) at.3 ∙ append_assoc at.1 at.2 more, at.4,
+      inl (omega (arith, length-append at.2 more, at.5.0), BreaksRecord-append 24 at.2 more fault at.5.0 at.5.1)))
+fault_at_start more old fault start last (inr (inl (inr at))) = absurd (omega (arith, start, at.0))
+fault_at_start more old fault start last (inr (inr (inl torn))) =
+    let both = torn_header old more fault last torn in
+    inl (refl, both.0, both.1)
+fault_at_start more old fault start last (inr (inr (inr (inl at)))) =
+    inr (inr (at.1, at.2 ++ more, ap (λ t. t ++ more) at.3 ∙ append_assoc at.1 at.2 more, at.4,
+      inr (torn_there 24 at.2 more old.finished fault last at.5)))
+fault_at_start more old fault start last (inr (inr (inr (inr at)))) = absurd (omega (arith, start, at.0))
+
+-- behind the frames, a fault is that of the next record
+record_fault : (more : List ℕ) (old : Reading) (fault : PcapFault) → 0 < old.place → (old.finished ≡ true → more ≡ [])
+    → IsFaulty old fault → AreRecordsUpTo old.place (old.rest ++ more) [] fault
+record_fault more old fault some last (inl broken) = absurd (omega (arith, some, broken.0))
+record_fault more old fault some last (inr (inl (inl at))) = absurd (omega (arith, some, at.0))
+record_fault more old fault some last (inr (inl (inr at))) =
+    inl (omega (arith, length-append old.rest more, at.1.0), BreaksRecord-append old.place old.rest more fault at.1.0 at.1.1)
+record_fault more old (Torn place) some last (inr (inr (inl torn))) = absurd (omega (arith, some, torn.2.0))
+record_fault more old Magic some last (inr (inr (inl torn))) = absurd torn
+record_fault more old Version some last (inr (inr (inl torn))) = absurd torn
+record_fault more old Link some last (inr (inr (inl torn))) = absurd torn
+record_fault more old (TooLong place len) some last (inr (inr (inl torn))) = absurd torn
+record_fault more old (Fraction place) some last (inr (inr (inl torn))) = absurd torn
+record_fault more old fault some last (inr (inr (inr (inl at)))) = absurd (omega (arith, some, at.0))
+record_fault more old fault some last (inr (inr (inr (inr at)))) = inr (torn_there old.place old.rest more old.finished fault last at.1)
+
+-- a fault that the reader meets is the text's, behind the frames that were read
+pub IsCaptureUpTo-met : (fed more : List ℕ) (frames : List Frame) (old : Reading) (fault : PcapFault) → HasRead fed frames old
+    → (old.finished ≡ true → more ≡ []) → IsFaulty old fault → IsCaptureUpTo (fed ++ more) frames fault
+IsCaptureUpTo-met fed more frames old fault (inl start) last faulty =
+    let P : List Frame → Type 0 = λ fs. IsCaptureUpTo (fed ++ more) fs fault in
+    let Q : List ℕ → Type 0 = λ t. IsCaptureUpTo (t ++ more) [] fault in
+    subst P (sym start.1) (subst Q (sym start.2) (fault_at_start more old fault start.0 last faulty))
+IsCaptureUpTo-met fed more frames old fault (inr behind) last faulty =
+    let is = behind.1.is_capture in
+    let records : List ℕ = is.1 in
+    let place : old.place ≡ 24 + length records =
+      behind.1.place ∙ ap length is.2 ∙ length-append is.0 records ∙ ap (λ n. n + length records) is.3.size in
+    let At : ℕ → Type 0 = λ n. AreRecordsUpTo n (old.rest ++ more) [] fault in
+    let text : fed ++ more ≡ is.0 ++ (records ++ (old.rest ++ more)) =
+      ap (λ t. t ++ more) behind.1.fed_is ∙ append_assoc behind.1.used old.rest more
+      ∙ ap (λ t. t ++ (old.rest ++ more)) is.2 ∙ append_assoc is.0 records (old.rest ++ more) in
+    inr (inr (is.0, records ++ (old.rest ++ more), text, is.3,
+      AreRecordsUpTo-behind 24 records (old.rest ++ more) frames fault is.4
+        (subst At place (record_fault more old fault behind.0 last faulty))))
+
+passes_at : (fed more : List ℕ) (frames : List Frame) (reading : Reading) → 0 < length frames → HasRead fed frames reading
+    → ¬ (IsWithinLimits frames) → PassesLimit (fed ++ more)
+passes_at fed more frames reading some (inl start) large = absurd (omega (arith, some, ap (length {A = Frame}) start.1))
+passes_at fed more frames reading some (inr behind) large =
+    (behind.1.used, reading.rest ++ more, frames, ap (λ t. t ++ more) behind.1.fed_is ∙ append_assoc behind.1.used reading.rest more,
+      behind.1.is_capture, large)
+
+-- a frame that passes a limit makes the text pass it
+pub PassesLimit-pulled : (fed more : List ℕ) (frames : List Frame) (frame : Frame) (old new : Reading) → HasRead fed frames old
+    → Pulls old (pull.Frame frame) new → ¬ (IsWithinLimits (frames ++ frame ∷ [])) → PassesLimit (fed ++ more)
+PassesLimit-pulled fed more frames frame old new read pulls large =
+    passes_at fed more (frames ++ frame ∷ []) new (omega (arith, length-append frames (frame ∷ [])))
+      (HasRead-pulled fed frames frame old new read pulls) large

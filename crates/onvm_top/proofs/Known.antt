@@ -4,6 +4,7 @@ use Rattle.std.proofs.lemmas.List.{append-nil, length-append, take-append-le, le
 use Rattle.std.proofs.lemmas.Bool.{cases_lt}
 use Rattle.std.proofs.Math.Seq.{take-append-add}
 use Rattle.std.specs.Io.KnownBytes.{Appends, Consumes, IsAtEnd}
+use Rattle.onvm_top.specs.Known.{AppendsFront}
 
 -- one piece after another is both together
 pub Appends-append : (a b c : Option (List ℕ)) (x y : List ℕ) → Appends a b x → Appends b c y → Appends a c (x ++ y)
@@ -79,3 +80,34 @@ pub same_as_front : (a b : Option (List ℕ)) (bytes room text : List ℕ) (coun
 same_as_front a b bytes room text count told taken within short small =
     same_front a b bytes (take count room) text count (length room) told taken (length-take-le count room within) short small
       (cases_lt count (length room))
+
+-- what was left behind what was consumed
+pub Consumes-rest : (a b : Option (List ℕ)) (text x : List ℕ) → a ≡ Some text → Consumes a b x
+    → (more : List ℕ) × (b ≡ Some more) × (text ≡ x ++ more)
+Consumes-rest a b text x e p =
+    let P : Option (List ℕ) → Type 0 = λ t. Consumes t b x in
+    lemma b (subst P e p)
+  where
+    lemma : (d : Option (List ℕ)) → Consumes (Some text) d x → (more : List ℕ) × (d ≡ Some more) × (text ≡ x ++ more)
+    lemma None p = absurd p
+    lemma (Some w) p = (w, refl, p)
+
+-- nothing is left at the end
+pub IsAtEnd-left : (b : Option (List ℕ)) (more : List ℕ) → b ≡ Some more → IsAtEnd b → more ≡ []
+IsAtEnd-left b more e p =
+    let P : Option (List ℕ) → Type 0 = IsAtEnd in
+    subst P e p
+
+-- all of it is a front
+pub front-whole : (a b : Option (List ℕ)) (whole : List ℕ) → Appends a b whole → AppendsFront a b whole
+front-whole a b whole all = (whole, [], sym (append-nil whole), all)
+
+-- a front of the first part is a front of both
+pub front-first : (a b : Option (List ℕ)) (x y : List ℕ) → AppendsFront a b x → AppendsFront a b (x ++ y)
+front-first a b x y (front, rest, is, appended) =
+    (front, rest ++ y, ap (λ t. t ++ y) is ∙ append_assoc front rest y, appended)
+
+-- the first part and a front of the second are a front of both
+pub front-second : (a b c : Option (List ℕ)) (x y : List ℕ) → Appends a b x → AppendsFront b c y → AppendsFront a c (x ++ y)
+front-second a b c x y all (front, rest, is, appended) =
+    (x ++ front, rest, ap (λ t. x ++ t) is ∙ sym (append_assoc x front rest), Appends-append a b c x front all appended)

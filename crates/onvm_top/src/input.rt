@@ -1,8 +1,11 @@
 //! Captures read to their end.
-ghost use Rattle.std.specs.Prelude.{◌≡◌, ◌≢◌, ◌≤◌, ◌<◌, ◌+◌, ◌^◌, ℕ, List, Some, IfOk, OnOk, Ok, Err, length, true, false};
+ghost use Rattle.std.specs.Prelude.{◌≡◌, ◌≢◌, ◌⊎◌, ◌≤◌, ◌<◌, ◌+◌, ◌^◌, ℕ, List, [], ◌++◌, Some, IfOk, IfErr, OnOk, Ok, Err, length, true, false};
 ghost use Rattle.onvm_host.specs.Causes.{Rose};
+ghost use Rattle.onvm_base.specs.declared.frame.Frame.{Frame};
 ghost use Rattle.pcap_in.specs.Classic.{IsCapture};
-ghost use Rattle.onvm_top.specs.Limits.{IsWithinLimits};
+ghost use Rattle.pcap_in.specs.Faulty.{IsCaptureUpTo};
+ghost use Rattle.pcap_in.specs.declared.pull.PcapFault.{PcapFault};
+ghost use Rattle.onvm_top.specs.Limits.{IsWithinLimits, PassesLimit};
 ghost use Rattle.onvm_top.specs.Fed.{EndsEarly, Feeds, HasRead};
 
 use crate::received::Received;
@@ -27,6 +30,11 @@ pub enum CaptureFault {
 pub fn read_frames<S: Source>(alloc: Global, source: &mut S) -> Result<Frames, CaptureFault>
     ensures whole { IfOk result (λ frames. (text : List ℕ) → S.left source.old ≡ Some text → IsCapture text frames) }
     ensures within { IfOk result (λ frames. IsWithinLimits frames) }
+    ensures broken { (fault : PcapFault) → result ≡ Err (CaptureFault.Broken fault)
+        → (text : List ℕ) → S.left source.old ≡ Some text
+        → (frames : List Frame) × IsCaptureUpTo text frames fault × IsWithinLimits frames }
+    ensures too_many { result ≡ Err CaptureFault.TooMany
+        → (text : List ℕ) → S.left source.old ≡ Some text → PassesLimit text }
     ensures read { result ≡ Err CaptureFault.Read → Rose (S.faults source.old) (S.faults source.new) }
     ensures later { S.faults source.old ≤ S.faults source.new }
 {
@@ -48,6 +56,7 @@ fn feed_piece<S: Source>(source: &mut S, reader: &mut Reader, piece: &mut [u8]) 
     requires fits { reader.old.place + length reader.old.rest + length piece.old < 2 ^ 64 }
     ensures ok { OnOk result (Feeds (S.left source.old) (S.left source.new) reader.old reader.new) }
     ensures read { result ≡ Err CaptureFault.Read → Rose (S.faults source.old) (S.faults source.new) }
+    ensures only { IfErr result (λ fault. (fault ≡ CaptureFault.Read) ⊎ (fault ≡ CaptureFault.Memory)) }
     ensures later { S.faults source.old ≤ S.faults source.new }
 {
     let Ok(count) = source.take(piece) else {
@@ -70,6 +79,11 @@ fn pull_frames(alloc: Global, reader: &mut Reader, received: &mut Received) -> R
     ensures read { IfOk result (λ _. (fed : List ℕ) → HasRead fed received.old reader.old → HasRead fed received.new reader.new) }
     ensures finished { IfOk result (λ ended. (reader.old.finished ≡ ended) × (reader.new.finished ≡ ended)) }
     ensures ended { result ≡ Ok true → (fed : List ℕ) → HasRead fed received.old reader.old → IsCapture fed received.new }
+    ensures broken { (fault : PcapFault) → result ≡ Err (CaptureFault.Broken fault)
+        → (fed more : List ℕ) → HasRead fed received.old reader.old → (reader.old.finished ≡ true → more ≡ [])
+        → (frames : List Frame) × IsCaptureUpTo (fed ++ more) frames fault × IsWithinLimits frames }
+    ensures too_many { result ≡ Err CaptureFault.TooMany
+        → (fed more : List ℕ) → HasRead fed received.old reader.old → PassesLimit (fed ++ more) }
     ensures more { result ≡ Ok false → EndsEarly reader.new }
     ensures only { result ≢ Err CaptureFault.Read }
 {

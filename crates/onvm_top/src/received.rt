@@ -1,5 +1,5 @@
 //! The frames of a port, within its limits.
-ghost use Rattle.std.specs.Prelude.{◌≡◌, ◌≢◌, [], ◌∷◌, ◌++◌, OnOk, Err};
+ghost use Rattle.std.specs.Prelude.{◌≡◌, ◌⊎◌, [], ◌∷◌, ◌++◌, OnOk, IfErr, Err};
 ghost use Rattle.onvm_top.specs.Limits.{IsWithinLimits};
 
 use crate::input::CaptureFault;
@@ -42,7 +42,7 @@ impl Received {
         ensures ok { OnOk result (self.new ≡ self.old ++ frame ∷ []) }
         ensures within { IsWithinLimits self.new }
         ensures too_many { result ≡ Err CaptureFault.TooMany → ¬ (IsWithinLimits (self.old ++ frame ∷ [])) }
-        ensures only { result ≢ Err CaptureFault.Read }
+        ensures only { IfErr result (λ fault. (fault ≡ CaptureFault.TooMany) ⊎ (fault ≡ CaptureFault.Memory)) }
     {
         let bytes = self.bytes + frame.packet.bytes().len() as u64;
         if self.frames.len() == MAX_PORT_FRAMES || bytes > MAX_PORT_BYTES {

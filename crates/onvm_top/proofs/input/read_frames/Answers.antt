@@ -1,10 +1,15 @@
-use Rattle.std.proofs.Common.{◌≡◌, ◌∙◌, sym, ap, subst, ◌<◌, ◌+◌, ◌++◌, List, ℕ, length, Ok, arith, rules}
+use Rattle.std.proofs.Common.{◌≡◌, ◌∙◌, sym, ap, subst, ◌<◌, ◌+◌, ◌++◌, List, ℕ, length, Ok, Err, arith, rules}
 use Rattle.std.proofs.lemmas.List.{length-append}
 use Rattle.onvm_base.specs.declared.frame.Frame.{Frame}
 use Rattle.pcap_in.specs.Classic.{IsCapture}
 use Rattle.onvm_top.specs.Fed.{Feeds, HasRead}
 use Rattle.onvm_top.proofs.Captured.{HasRead-bound, HasRead-fed, HasRead-length}
-use Rattle.onvm_top.proofs.Known.{Consumes-append, Consumes-to_end}
+use Rattle.std.proofs.lemmas.Result.{err_from_is_err_and}
+use Rattle.pcap_in.specs.Faulty.{IsCaptureUpTo}
+use Rattle.pcap_in.specs.declared.pull.PcapFault.{PcapFault}
+use Rattle.onvm_top.specs.Limits.{IsWithinLimits, PassesLimit}
+use Rattle.onvm_top.specs.declared.input.CaptureFault.TheVariants as fault
+use Rattle.onvm_top.proofs.Known.{Consumes-append, Consumes-rest, Consumes-to_end, IsAtEnd-left}
 use Rattle.onvm_top.proofs.input.read_frames.Goals as goal
 
 pub feed_piece-requires-clause-fits : goal.feed_piece-requires-clause-fits
@@ -53,3 +58,32 @@ pieces-preserved g c =
       short = early.short;
       read = (fed, Consumes-append _ _ _ kept.read.0 feeds.bytes kept.read.1 feeds.consumed, c.in_ok-pull_frames.ensures.read fed now);
     }
+
+pub returns-in_err-pull_frames-clause-broken : goal.returns-in_err-pull_frames-clause-broken
+returns-in_err-pull_frames-clause-broken g c =
+    let passed = err_from_is_err_and c.from_residual-in_err-pull_frames.result c.from_residual-in_err-pull_frames.ensures.1 in
+    λ told is text left.
+    let pulled : c.pull_frames.result ≡ Err (fault.Broken told) = cc (passed.1, passed.2, c.in_err-pull_frames.was, is) in
+    let read = c.pieces.invariant.read in
+    let feeds = c.in_ok-feed_piece.ensures.ok in
+    let fed : List ℕ = read.0 ++ feeds.bytes in
+    let now = HasRead-fed read.0 feeds.bytes c.pieces.received c.pieces.reader c.feed_piece.new.reader read.2 feeds.place feeds.rest in
+    let all = Consumes-append _ _ _ read.0 feeds.bytes read.1 feeds.consumed in
+    let rest = Consumes-rest _ _ text fed left all in
+    let P : List ℕ → Type 0 = λ t. (frames : List Frame) × IsCaptureUpTo t frames told × IsWithinLimits frames in
+    subst P (sym rest.2)
+      (c.pull_frames.ensures.broken told pulled fed rest.0 now (λ finished. IsAtEnd-left _ rest.0 rest.1 (feeds.at_end finished)))
+
+pub returns-in_err-pull_frames-clause-too_many : goal.returns-in_err-pull_frames-clause-too_many
+returns-in_err-pull_frames-clause-too_many g c =
+    let passed = err_from_is_err_and c.from_residual-in_err-pull_frames.result c.from_residual-in_err-pull_frames.ensures.1 in
+    λ is text left.
+    let pulled : c.pull_frames.result ≡ Err fault.TooMany = cc (passed.1, passed.2, c.in_err-pull_frames.was, is) in
+    let read = c.pieces.invariant.read in
+    let feeds = c.in_ok-feed_piece.ensures.ok in
+    let fed : List ℕ = read.0 ++ feeds.bytes in
+    let now = HasRead-fed read.0 feeds.bytes c.pieces.received c.pieces.reader c.feed_piece.new.reader read.2 feeds.place feeds.rest in
+    let all = Consumes-append _ _ _ read.0 feeds.bytes read.1 feeds.consumed in
+    let rest = Consumes-rest _ _ text fed left all in
+    let P : List ℕ → Type 0 = PassesLimit in
+    subst P (sym rest.2) (c.pull_frames.ensures.too_many pulled fed rest.0 now)
