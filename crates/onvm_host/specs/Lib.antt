@@ -1,2 +1,5 @@
 pub mod Causes
 pub mod Files
+pub mod Given
+pub mod Memory
+pub mod Written

@@ -1,5 +1,8 @@
-//! Why a host did not open or create.
+//! Why a host did not open or create, and how faults are counted.
+ghost use Rattle.std.specs.Prelude.{◌≡◌, ◌≤◌, ◌+◌, ◌-◌, ◌^◌, min};
 
+use onvm_base::{Failed, NoMemory};
+use std::alloc::{AllocError, AllocFailed};
 use thiserror::Error;
 
 /// Why an input or an output was not made.
@@ -9,4 +12,57 @@ pub enum HostFault {
     Failed,
     #[error("want of memory")]
     Memory,
+}
+
+impl From<Failed> for HostFault {
+    ghost use Rattle.std.specs.Prelude.{◌≡◌};
+    ghost use Rattle.onvm_host.specs.declared.fault.HostFault.TheVariants as variant;
+
+    ghost from_gives = { λ _ fault. fault ≡ variant.Failed };
+
+    fn from(_failed: Failed) -> HostFault {
+        HostFault::Failed
+    }
+}
+
+impl From<NoMemory> for HostFault {
+    ghost use Rattle.std.specs.Prelude.{◌≡◌};
+    ghost use Rattle.onvm_host.specs.declared.fault.HostFault.TheVariants as variant;
+
+    ghost from_gives = { λ _ fault. fault ≡ variant.Memory };
+
+    fn from(_refused: NoMemory) -> HostFault {
+        HostFault::Memory
+    }
+}
+
+impl From<AllocError> for HostFault {
+    ghost use Rattle.std.specs.Prelude.{◌≡◌};
+    ghost use Rattle.onvm_host.specs.declared.fault.HostFault.TheVariants as variant;
+
+    ghost from_gives = { λ _ fault. fault ≡ variant.Memory };
+
+    fn from(_refused: AllocError) -> HostFault {
+        HostFault::Memory
+    }
+}
+
+impl<T: Drop> From<AllocFailed<T>> for HostFault {
+    ghost use Rattle.std.specs.Prelude.{◌≡◌};
+    ghost use Rattle.onvm_host.specs.declared.fault.HostFault.TheVariants as variant;
+
+    ghost from_gives = { λ _ fault. fault ≡ variant.Memory };
+
+    fn from(_refused: AllocFailed<T>) -> HostFault {
+        HostFault::Memory
+    }
+}
+
+/// Counts a fault. The count stops at its last value.
+pub(crate) fn raise(faults: &mut u64) -> Failed
+    ensures raised { faults.new ≡ min (faults.old + 1) (2 ^ 64 - 1) }
+    ensures later { faults.old ≤ faults.new }
+{
+    *faults = faults.saturating_add(1);
+    Failed
 }

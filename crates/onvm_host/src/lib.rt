@@ -8,8 +8,17 @@
 
 mod clock;
 mod fault;
+mod file_host;
+mod memory;
+mod name;
+mod sys_clock;
+#[cfg(test)]
+mod tests;
 mod traits;
 
 pub use clock::{Clock, Gate, OpenGate, StepClock};
 pub use fault::HostFault;
+pub use file_host::{FileHost, FileInput, FileOutput};
+pub use memory::{Calls, MemFile, MemFiles, MemHost, MemInput, MemOutput, have_distinct_names};
+pub use sys_clock::SysClock;
 pub use traits::{Host, Sink, Source};

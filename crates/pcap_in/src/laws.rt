@@ -1,8 +1,10 @@
 //! What the definitions of a capture and of a reader's answers imply, for every text and reader.
-ghost use Rattle.std.specs.Prelude.{◌≡◌, ◌↔◌, ℕ, Bool, true, List, [], ◌∷◌};
+ghost use Rattle.std.specs.Prelude.{◌≡◌, ◌↔◌, ℕ, Bool, true, List, [], ◌∷◌, ◌++◌};
 ghost use Rattle.onvm_base.specs.declared.frame.Frame.{Frame};
 ghost use Rattle.pcap_in.specs.Classic.{IsCapture};
+ghost use Rattle.pcap_in.specs.Faulty.{IsCaptureUpTo};
 ghost use Rattle.pcap_in.specs.Reading.{Reading, Pulls, AreLeft};
+ghost use Rattle.pcap_in.specs.declared.pull.PcapFault.{PcapFault};
 ghost use Rattle.pcap_in.specs.declared.pull.Pull.{Pull};
 ghost use Rattle.pcap_in.specs.declared.pull.Pull.TheVariants as pull;
 
@@ -43,4 +45,16 @@ pub fn end_comes_last()
 pub fn a_pulled_frame_was_left()
     ensures { (old new : Reading) (frame : Frame) (frames : List Frame)
         → Pulls old (pull.Frame frame) new → AreLeft new frames → AreLeft old (frame ∷ frames) }
+{}
+
+/// A capture has no fault, neither behind all its frames nor before.
+pub fn a_capture_has_no_fault()
+    ensures { (text : List ℕ) (xs ys : List Frame) (fault : PcapFault)
+        → IsCapture text xs → ¬ (IsCaptureUpTo text ys fault) }
+{}
+
+/// A capture that a capture begins with has its first frames.
+pub fn a_captures_begin_has_its_first_frames()
+    ensures { (text used rest : List ℕ) (xs ys : List Frame)
+        → IsCapture text xs → text ≡ used ++ rest → IsCapture used ys → (zs : List Frame) × (xs ≡ ys ++ zs) }
 {}

@@ -1,0 +1,187 @@
+//! A host over real files and standard output. It tells nothing of content.
+ghost use Rattle.std.specs.Prelude.{◌≡◌, ◌≤◌, ◌<◌, ⊤, None, IfOk, length};
+ghost use Rattle.std.specs.Io.{WritesAtMost};
+ghost use Rattle.onvm_host.specs.Causes.{HasCause, Rose};
+
+use crate::fault::{HostFault, raise};
+use crate::name::copy_of;
+use crate::traits::{Host, Sink, Source};
+use onvm_base::{Failed, Name};
+use std::fs::File;
+use std::io;
+use std::io::{BufWriter, ErrorKind, Print, Read, Write};
+use std::rt::Files;
+
+/// How many bytes of an output wait to be written together.
+const BUFFER_BYTES: usize = 65_536;
+
+/// Reads a file, no further ahead than it is asked for.
+#[derive(Drop)]
+pub struct FileInput<F> {
+    file: F,
+    faults: u64,
+}
+
+impl<F: Read + Drop> Source for FileInput<F> {
+    ghost left = { λ _. None };
+
+    ghost faults = { λ input. input.faults };
+
+    #[inline]
+    fn take(&mut self, into: &mut [u8]) -> Result<usize, Failed> {
+        match self.file.read(into) {
+            Ok(count) => Ok(count),
+            Err(_) => Err(raise(&mut self.faults)),
+        }
+    }
+}
+
+/// A file that is still to be made, or was.
+#[derive(Drop)]
+struct Target<F> {
+    file: Option<F>,
+}
+
+impl<F: Write + Drop> Write for Target<F> {
+    fn write(&mut self, piece: &[u8]) -> io::Result<usize> {
+        match &mut self.file {
+            Some(file) => file.write(piece),
+            None => Ok(0),
+        }
+    }
+
+    fn flush(&mut self) -> io::Result<()> {
+        match &mut self.file {
+            Some(file) => file.flush(),
+            None => Ok(()),
+        }
+    }
+}
+
+/// Writes a file, many pieces at a time.
+#[derive(Drop)]
+pub struct FileOutput<F: Write + Drop> {
+    writer: BufWriter<Target<F>>,
+    name: Name,
+    faults: u64,
+}
+
+impl<F: Write + Drop> Sink for FileOutput<F> {
+    ghost held = { λ _. None };
+
+    ghost name = { λ output. output.name };
+
+    ghost faults = { λ output. output.faults };
+
+    #[inline]
+    fn put(&mut self, piece: &[u8]) -> Result<usize, Failed> {
+        let answer = self.writer.write(piece);
+        count_of(answer, piece, &mut self.faults)
+    }
+}
+
+/// A host over the files and the standard output of a runtime.
+#[derive(Drop)]
+pub struct FileHost<R> {
+    rt: R,
+    faults: u64,
+}
+
+impl<R> FileHost<R> {
+    pub fn make(rt: R) -> FileHost<R> {
+        FileHost { rt, faults: 0 }
+    }
+
+    // Why a file was not opened or made.
+    fn fault_of(&mut self, error: io::Error) -> HostFault
+        ensures later { self.old.faults ≤ self.new.faults }
+        ensures failed { result ≡ HostFault.Failed → Rose self.old.faults self.new.faults }
+    {
+        match error.kind() {
+            ErrorKind::OutOfMemory => HostFault::Memory,
+            _ => HostFault::from(raise(&mut self.faults)),
+        }
+    }
+}
+
+impl<R: Files + Print + AllocGlobal> Host for FileHost<R>
+where
+    R::File: Send,
+    R: Drop,
+{
+    type Input = FileInput<R::File>;
+
+    type Output = FileOutput<R::File>;
+
+    ghost files = { λ _. None };
+
+    ghost said = { λ _. None };
+
+    ghost faults = { λ host. host.faults };
+
+    ghost may_open = { λ _ _. ⊤ };
+
+    ghost may_create = { λ _ _. ⊤ };
+
+    fn open_input(&mut self, name: &str) -> Result<FileInput<R::File>, HostFault> {
+        match File::open(&self.rt, name) {
+            Ok(file) => Ok(FileInput { file, faults: 0 }),
+            Err(error) => Err(self.fault_of(error)),
+        }
+    }
+
+    fn create_output(&mut self, name: &str) -> Result<FileOutput<R::File>, HostFault> {
+        // All memory is taken first, so that want of it leaves an old file as it was.
+        let alloc = self.rt.alloc();
+        let copy = copy_of(alloc, name)?;
+        let target = Target { file: None };
+        let Ok(mut writer) = BufWriter::with_capacity(alloc, BUFFER_BYTES, target) else {
+            return Err(HostFault::Memory);
+        };
+        match File::create(&self.rt, name) {
+            Ok(file) => writer.get_mut().file = Some(file),
+            Err(error) => return Err(self.fault_of(error)),
+        }
+        Ok(FileOutput {
+            writer,
+            name: copy,
+            faults: 0,
+        })
+    }
+
+    fn shut(&mut self, input: FileInput<R::File>) {
+        if input.faults > 0 {
+            raise(&mut self.faults);
+        }
+    }
+
+    fn keep(&mut self, mut output: FileOutput<R::File>) -> Result<(), Failed> {
+        if output.faults > 0 {
+            raise(&mut self.faults);
+        }
+        match output.writer.flush() {
+            Ok(()) => Ok(()),
+            Err(_) => Err(raise(&mut self.faults)),
+        }
+    }
+
+    fn say(&mut self, piece: &[u8]) -> Result<usize, Failed> {
+        let answer = io::writer(&self.rt).write(piece);
+        count_of(answer, piece, &mut self.faults)
+    }
+}
+
+// How much of a piece was taken. That nothing was, of a piece that is not empty, is a fault.
+#[inline]
+fn count_of(answer: io::Result<usize>, piece: &[u8], faults: &mut u64) -> Result<usize, Failed>
+    requires { WritesAtMost answer piece.now }
+    ensures bound { WritesAtMost result piece.now }
+    ensures some { IfOk result (λ n. 0 < length piece.now → 0 < n) }
+    ensures answered { IfOk answer (λ n. 0 < n → result ≡ Ok n) }
+    ensures cause { HasCause faults.old faults.new result }
+{
+    match answer {
+        Ok(count) if count > 0 || piece.is_empty() => Ok(count),
+        _ => Err(raise(faults)),
+    }
+}

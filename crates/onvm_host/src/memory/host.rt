@@ -1,0 +1,158 @@
+//! The host in memory.
+ghost use Rattle.std.specs.Prelude.{◌≡◌, ⊤, [], Some, IfOk, option_copied};
+ghost use Rattle.onvm_host.specs.Files.{file_of};
+ghost use Rattle.onvm_host.specs.Given.{fails_of, given_entries, HaveDistinctNames};
+ghost use Rattle.onvm_host.specs.Memory.{entries_of};
+
+use crate::fault::HostFault;
+use crate::memory::file::{Calls, MemFiles, find_bytes, find_file};
+use crate::memory::input::MemInput;
+use crate::memory::output::MemOutput;
+use crate::memory::room::Room;
+use crate::memory::tally::Tally;
+use crate::memory::written::Written;
+use crate::name::copy_of;
+use crate::traits::Host;
+use onvm_base::{Failed, ListOf, NoMemory};
+use std::alloc::Global;
+
+/// A host whose files lie in memory. Those of its calls of `open_input`, `create_output`, `keep`
+/// and `say` fail whose numbers, from 1, are listed.
+#[derive(Drop)]
+pub struct MemHost {
+    alloc: Global,
+    given: MemFiles,
+    written: Written,
+    said: Room,
+    space: u64,
+    tally: Tally,
+}
+
+impl MemHost {
+    /// A host of these files. What is said may have `space` bytes, and so may each output.
+    pub fn make(
+        alloc: Global,
+        files: MemFiles,
+        fail: Calls,
+        space: u64,
+    ) -> Result<MemHost, NoMemory>
+        requires { HaveDistinctNames files }
+        ensures files { IfOk result (λ host. ⟦<MemHost as Host>⟧.files host ≡ Some (given_entries files)) }
+        ensures said { IfOk result (λ host. ⟦<MemHost as Host>⟧.said host ≡ Some []) }
+        ensures faults { IfOk result (λ host. ⟦<MemHost as Host>⟧.faults host ≡ 0) }
+    {
+        Ok(MemHost {
+            alloc,
+            given: files,
+            written: Written::End,
+            said: Room::make(alloc, space)?,
+            space,
+            tally: Tally::make(fail),
+        })
+    }
+
+    /// The bytes of a file.
+    #[tactic(auto, using(crate::proofs::Names::front_file, crate::proofs::Names::back_file))]
+    pub fn file(&self, name: &str) -> Option<&[u8]>
+        ensures { option_copied result ≡ file_of name.now (entries_of self.now) }
+    {
+        let name = name.as_bytes();
+        match self.written.find(name) {
+            Some(bytes) => Some(bytes),
+            None => find_bytes(self.given.as_slice(), name),
+        }
+    }
+
+    /// What was said.
+    pub fn said(&self) -> &[u8]
+        ensures { ⟦<MemHost as Host>⟧.said self.now ≡ Some result.now }
+    {
+        self.said.as_slice()
+    }
+
+    // A copy of the numbers of the calls that fail of the given file, if there is one.
+    fn fail_of(&self, name: &str) -> Result<Calls, NoMemory>
+        ensures { IfOk result (λ fail. fail ≡ fails_of name.now self.now.given) }
+    {
+        let mut numbers = Vec::new(self.alloc);
+        if let Some(file) = find_file(self.given.as_slice(), name.as_bytes()) {
+            numbers.extend_from_slice(file.fail.as_slice())?;
+        }
+        Ok(ListOf::from_vec(numbers))
+    }
+
+    // An output under this name, which holds nothing.
+    fn output(&self, name: &str) -> Result<MemOutput, NoMemory>
+        ensures named { IfOk result (λ output. output.name ≡ name.now) }
+        ensures empty { IfOk result (λ output. output.bytes.bytes.items ≡ []) }
+        ensures space { IfOk result (λ output. output.bytes.space ≡ self.now.space) }
+        ensures fails { IfOk result (λ output. output.tally.fail ≡ fails_of name.now self.now.given) }
+        ensures fresh { IfOk result (λ output. (output.tally.calls ≡ 0) × (output.tally.faults ≡ 0)) }
+    {
+        Ok(MemOutput {
+            name: copy_of(self.alloc, name)?,
+            bytes: Room::make(self.alloc, self.space)?,
+            tally: Tally::make(self.fail_of(name)?),
+            node: Box::new(self.alloc, Written::End)?,
+        })
+    }
+}
+
+impl Host for MemHost {
+    type Input = MemInput;
+
+    type Output = MemOutput;
+
+    ghost files = { λ host. Some (entries_of host) };
+
+    ghost said = { λ host. Some host.said.bytes.items };
+
+    ghost faults = { λ host. host.tally.faults };
+
+    ghost may_open = { λ _ _. ⊤ };
+
+    ghost may_create = { λ _ _. ⊤ };
+
+    fn open_input(&mut self, name: &str) -> Result<MemInput, HostFault> {
+        self.tally.call()?;
+        let Some(found) = self.file(name) else {
+            self.tally.fault();
+            return Err(HostFault::Failed);
+        };
+        let bytes = Vec::from_slice(self.alloc, found)?;
+        Ok(MemInput::make(bytes, self.fail_of(name)?))
+    }
+
+    fn create_output(&mut self, name: &str) -> Result<MemOutput, HostFault> {
+        self.tally.call()?;
+        let output = self.output(name)?;
+        let empty = copy_of(self.alloc, name)?;
+        let node = Box::new(self.alloc, Written::End)?;
+        self.written.put(empty, ListOf::make(self.alloc), node);
+        Ok(output)
+    }
+
+    fn shut(&mut self, input: MemInput) {
+        if input.has_failed() {
+            self.tally.fault();
+        }
+    }
+
+    fn keep(&mut self, output: MemOutput) -> Result<(), Failed> {
+        let MemOutput {
+            name,
+            bytes,
+            tally,
+            node,
+        } = output;
+        self.written.put(name, bytes.into_text(), node);
+        if tally.faults > 0 {
+            self.tally.fault();
+        }
+        self.tally.call()
+    }
+
+    fn say(&mut self, piece: &[u8]) -> Result<usize, Failed> {
+        self.said.place(piece, &mut self.tally)
+    }
+}
