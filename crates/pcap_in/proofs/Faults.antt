@@ -1,8 +1,8 @@
 -- A text that has a fault is no capture, and what comes behind a fault doesn't change it.
-use Rattle.std.proofs.Common.{◌≡◌, ◌≢◌, ◌∙◌, sym, ap, subst, inl, inr, ◌⊎◌, ℕ, true, ◌+◌, ◌<◌, ◌≤◌, List, [], ◌∷◌, ◌++◌, length, take, drop, append_assoc, add_assoc, arith, refl}
-use Rattle.std.proofs.lemmas.List.{length-append, drop_at, take-append-le, append-nil}
+use Rattle.std.proofs.Common.{◌≡◌, ◌∙◌, sym, ap, subst, inl, inr, ℕ, true, ◌+◌, ◌≤◌, List, [], ◌∷◌, ◌++◌, length, drop, append_assoc, arith, refl}
+use Rattle.std.proofs.lemmas.List.{length-append, drop_at, take-append-le}
 use Rattle.onvm_base.specs.declared.frame.Frame.{Frame}
-use Rattle.pcap_in.specs.Classic.{IsHeader, IsRecord, AreRecords, IsCapture, number, micros_magic}
+use Rattle.pcap_in.specs.Classic.{IsHeader, IsRecord, AreRecords, IsCapture}
 use Rattle.pcap_in.specs.Faulty.{AreRecordsUpTo, IsCaptureUpTo}
 use Rattle.pcap_in.specs.Reading.{BreaksHeader, BreaksRecord, EndsInRecord, IsTornRecord}
 use Rattle.pcap_in.specs.declared.pull.PcapFault.{PcapFault}
@@ -80,7 +80,7 @@ records_keep at text (x ∷ xs) [] fault (a, c, text-is, is, are) upto = begun_k
 records_keep at text (x ∷ xs) (y ∷ ys) fault (a, c, text-is, is, are) (b, d, other-is, other, upto) =
     let same = one_record a b c d x y is other (sym text-is ∙ other-is) in
     records_keep (at + length b) c xs ys fault are
-      (subst (λ (t : List ℕ). AreRecordsUpTo (at + length b) t ys fault) (sym same.2) upto)
+    (subst (λ (t : List ℕ). AreRecordsUpTo (at + length b) t ys fault) (sym same.2) upto)
 
 -- a text that is a capture has no fault
 pub no_fault : (text : List ℕ) (xs ys : List Frame) (fault : PcapFault) → IsCapture text xs → IsCaptureUpTo text ys fault → ⊥
@@ -90,20 +90,22 @@ no_fault text xs ys fault (header, rest, text-is, is, are) (inr (inl broken)) =
     header_keeps header rest fault is (subst (λ (t : List ℕ). BreaksHeader t fault) text-is broken.2)
 no_fault text xs ys fault (header, rest, text-is, is, are) (inr (inr (other_header, other_rest, other-is, other, upto))) =
     let same : other_rest ≡ rest =
-      sym (drop_at other_header other_rest 24 other.size) ∙ ap (drop 24) (sym other-is ∙ text-is) ∙ drop_at header rest 24 is.size in
+    sym (drop_at other_header other_rest 24 other.size) ∙ ap (drop 24) (sym other-is ∙ text-is) ∙ drop_at header rest 24 is.size in
     records_keep 24 rest xs ys fault are (subst (λ (t : List ℕ). AreRecordsUpTo 24 t ys fault) same upto)
 
 -- a rule that a whole header breaks is broken whatever follows
 pub BreaksHeader-append : (text more : List ℕ) (fault : PcapFault) → 24 ≤ length text → BreaksHeader text fault → BreaksHeader (text ++ more) fault
 BreaksHeader-append text more Magic whole breaks = λ is. breaks (sym (take-append-le 4 text more (omega arith)) ∙ is)
 BreaksHeader-append text more Version whole breaks = (
-    take-append-le 4 text more (omega arith) ∙ breaks.0,
-    λ is. breaks.1 (sym (number-append 2 4 text more (omega arith)) ∙ is.0, sym (number-append 2 6 text more (omega arith)) ∙ is.1))
+  take-append-le 4 text more (omega arith) ∙ breaks.0,
+  λ is. breaks.1 (sym (number-append 2 4 text more (omega arith)) ∙ is.0, sym (number-append 2 6 text more (omega arith)) ∙ is.1),
+)
 BreaksHeader-append text more Link whole breaks = (
-    take-append-le 4 text more (omega arith) ∙ breaks.0,
-    number-append 2 4 text more (omega arith) ∙ breaks.1,
-    number-append 2 6 text more (omega arith) ∙ breaks.2,
-    λ is. breaks.3 (sym (number-append 4 20 text more (omega arith)) ∙ is))
+  take-append-le 4 text more (omega arith) ∙ breaks.0,
+  number-append 2 4 text more (omega arith) ∙ breaks.1,
+  number-append 2 6 text more (omega arith) ∙ breaks.2,
+  λ is. breaks.3 (sym (number-append 4 20 text more (omega arith)) ∙ is),
+)
 BreaksHeader-append text more (Torn place) whole breaks = absurd breaks
 BreaksHeader-append text more (TooLong place len) whole breaks = absurd breaks
 BreaksHeader-append text more (Fraction place) whole breaks = absurd breaks
@@ -133,7 +135,7 @@ AreRecordsUpTo-behind at before text (frame ∷ frames) fault (a, c, before-is, 
     let size : length before ≡ length a + length c = ap length before-is ∙ length-append a c in
     let place : at + length before ≡ at + length a + length c = omega (arith, size) in
     let next : AreRecordsUpTo (at + length a) (c ++ text) frames fault =
-      AreRecordsUpTo-behind (at + length a) c text frames fault are (subst (λ (n : ℕ). AreRecordsUpTo n text [] fault) place upto) in
+    AreRecordsUpTo-behind (at + length a) c text frames fault are (subst (λ (n : ℕ). AreRecordsUpTo n text [] fault) place upto) in
     (a, c ++ text, ap (λ t. t ++ text) before-is ∙ append_assoc a c text, is, next)
 
 -- what is read first of a capture's records are its first frames
@@ -144,7 +146,7 @@ records_first text used rest [] (y ∷ ys) are text-is (b, d, used-is, other, fi
     absurd (not_nothing text b (d ++ rest) y are (text-is ∙ ap (λ t. t ++ rest) used-is ∙ append_assoc b d rest) other)
 records_first text used rest (x ∷ xs) (y ∷ ys) (a, c, whole-is, is, are) text-is (b, d, used-is, other, first) =
     let same = one_record a b c (d ++ rest) x y is other
-      (sym whole-is ∙ text-is ∙ ap (λ t. t ++ rest) used-is ∙ append_assoc b d rest) in
+    (sym whole-is ∙ text-is ∙ ap (λ t. t ++ rest) used-is ∙ append_assoc b d rest) in
     let others = records_first c d rest xs ys are same.2 first in
     let heads : x ≡ y = same.1 in
     let tails : xs ≡ ys ++ others.0 = others.1 in
@@ -156,5 +158,5 @@ pub capture_first : (text used rest : List ℕ) (xs ys : List Frame) → IsCaptu
 capture_first text used rest xs ys (a, c, whole-is, is, are) text-is (b, d, used-is, other, first) =
     let both : a ++ c ≡ b ++ (d ++ rest) = sym whole-is ∙ text-is ∙ ap (λ t. t ++ rest) used-is ∙ append_assoc b d rest in
     let same : c ≡ d ++ rest =
-      sym (drop_at a c 24 is.size) ∙ ap (drop 24) both ∙ drop_at b (d ++ rest) 24 other.size in
+    sym (drop_at a c 24 is.size) ∙ ap (drop 24) both ∙ drop_at b (d ++ rest) 24 other.size in
     records_first c d rest xs ys are same first

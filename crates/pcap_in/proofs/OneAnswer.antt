@@ -17,13 +17,13 @@ stop_of at rest false = pull.More
 stop_of at [] true = pull.End
 stop_of at (byte ∷ bytes) true = pull.Bad (Torn at)
 
--- the kinds of answers that the header's bytes have
+-- the answers that the header's bytes have
 abbrev pub InHeader : Reading → Pull → Type 0
 InHeader old answer =
     (old.place ≡ 0) × ((length old.rest < 24) × (answer ≡ cond old.finished (pull.Bad (Torn 0)) pull.More)
     ⊎ (24 ≤ length old.rest) × (fault : PcapFault) × (answer ≡ pull.Bad fault) × BreaksHeader old.rest fault)
 
--- the kinds of answers that a record's bytes have
+-- the answers that a record's bytes have
 abbrev pub InRecord : Reading → Pull → Reading → ℕ → List ℕ → Type 0
 InRecord old answer new at rest =
     ((new ≡ old) × EndsInRecord rest × (answer ≡ stop_of at rest old.finished))
@@ -47,16 +47,18 @@ both_at old P Q G (inl (start, a, c, text, is, fact)) (inr (later, fact')) follo
 both_at old P Q G (inr (later, fact)) (inl (start, a, c, text, is, fact')) follows = absurd (omega arith)
 both_at old P Q G (inr (later, fact)) (inr (later', fact')) follows = follows old.place old.rest fact fact'
 
--- nothing is cut off where nothing is
+-- more is wanted while more may come
 pub stop_more : (at : ℕ) (rest : List ℕ) (finished : Bool) → finished ≡ false → pull.More ≡ stop_of at rest finished
 stop_more at rest false e = refl
 stop_more at rest true e = absurd (cc)
 
+-- the end is where nothing is left
 pub stop_end : (at : ℕ) (rest : List ℕ) (finished : Bool) → finished ≡ true → rest ≡ [] → pull.End ≡ stop_of at rest finished
 stop_end at [] true e none = refl
 stop_end at (byte ∷ bytes) true e none = absurd (cc)
 stop_end at rest false e none = absurd (cc)
 
+-- a record is torn where something is left of it
 pub stop_torn : (at : ℕ) (rest : List ℕ) (finished : Bool) → finished ≡ true → 0 < length rest
     → pull.Bad (Torn at) ≡ stop_of at rest finished
 stop_torn at [] true e some = absurd (omega arith)
@@ -67,23 +69,28 @@ stop_torn at rest false e some = absurd (cc)
 abbrev pub GivesFrame : Frame → Reading → ℕ → List ℕ → Type 0
 GivesFrame frame new at rest = (bytes : List ℕ) × (rest ≡ bytes ++ new.rest) × IsRecord bytes frame × (new.place ≡ at + length bytes)
 
+-- what stands there where it answers with the fault of a whole head
 abbrev pub Broken : PcapFault → ℕ → List ℕ → Type 0
 Broken fault at rest = (16 ≤ length rest) × BreaksRecord at rest fault
 
+-- a frame is an answer of a record's bytes
 pub from_frame : (old new : Reading) (frame : Frame) (at : ℕ) (rest : List ℕ) → new.finished ≡ old.finished → GivesFrame frame new at rest
     → InRecord old (pull.Frame frame) new at rest
 from_frame old new frame at rest kept (bytes, text, is, place) = inr (inr (frame, bytes, refl, kept, text, is, place))
 
+-- so is the end
 pub from_end : (old new : Reading) (at : ℕ) (rest : List ℕ) → new ≡ old → old.finished ≡ true → rest ≡ []
     → InRecord old pull.End new at rest
 from_end old new at rest same finished none =
     let short : length rest < 16 = omega (arith, ap (length {A = ℕ}) none) in
     inl (same, inl short, stop_end at rest old.finished finished none)
 
+-- so is the fault of a whole head
 pub from_broken : (old new : Reading) (fault : PcapFault) (at : ℕ) (rest : List ℕ) → new ≡ old → Broken fault at rest
     → InRecord old (pull.Bad fault) new at rest
 from_broken old new fault at rest same (whole, broken) = inr (inl (same, whole, fault, refl, broken))
 
+-- so is a torn record
 pub from_torn : (old new : Reading) (fault : PcapFault) (at : ℕ) (rest : List ℕ) → new ≡ old → IsTornRecord at rest old.finished fault
     → InRecord old (pull.Bad fault) new at rest
 from_torn old new (Torn place) at rest same (finished, place-is, some, ends) =
@@ -94,6 +101,7 @@ from_torn old new Link at rest same wrong = absurd wrong
 from_torn old new (TooLong place len) at rest same wrong = absurd wrong
 from_torn old new (Fraction place) at rest same wrong = absurd wrong
 
+-- a torn header is an answer of the header's bytes
 pub from_torn_header : (old : Reading) (fault : PcapFault) → IsTornHeader old fault → InHeader old (pull.Bad fault)
 from_torn_header old (Torn place) (finished, zero-is, (start, short)) = (start, inl (short, rw (finished, zero-is) refl))
 from_torn_header old Magic wrong = absurd wrong
@@ -123,7 +131,7 @@ kinds old new (pull.Bad fault) (same, inr (inr (inr there))) =
     inr (at_weaker old (λ at rest. IsTornRecord at rest old.finished fault) (InRecord old (pull.Bad fault) new)
     (λ at rest fact. from_torn old new fault at rest same fact) there)
 
--- what an accepted header says, that a broken one denies
+-- an accepted header breaks none of its rules
 pub accepted : (a c : List ℕ) (fault : PcapFault) → IsHeader a → BreaksHeader (a ++ c) fault → ⊥
 accepted a c Magic is broken = broken (take-append-le 4 a c (omega (arith, is.size)) ∙ is.magic)
 accepted a c Version is (magic, broken) =
@@ -133,9 +141,11 @@ accepted a c (Torn at) is wrong = wrong
 accepted a c (TooLong at len) is wrong = wrong
 accepted a c (Fraction at) is wrong = wrong
 
+-- it begins as a capture of microseconds
 abbrev pub IsMicros : List ℕ → Type 0
 IsMicros rest = take 4 rest ≡ micros_magic
 
+-- it is of version 2.4
 abbrev pub IsVersion : List ℕ → Type 0
 IsVersion rest = (number 2 4 rest ≡ 2) × (number 2 6 rest ≡ 4)
 
@@ -146,6 +156,7 @@ FirstBroken rest fault =
     ⊎ ((fault ≡ Version) × IsMicros rest × (IsVersion rest → ⊥))
     ⊎ ((fault ≡ Link) × IsMicros rest × IsVersion rest × (number 4 20 rest ≡ 1 → ⊥))
 
+-- a fault of the header is the first rule that is broken
 pub first_broken : (rest : List ℕ) (fault : PcapFault) → BreaksHeader rest fault → FirstBroken rest fault
 first_broken rest Magic broken = inl (refl, broken)
 first_broken rest Version (magic, broken) = inr (inl (refl, magic, broken))
@@ -218,6 +229,7 @@ FirstBrokenOfHead at rest fault =
     ((fault ≡ TooLong at (number 4 8 rest)) × (MAX_FRAME_BYTES < number 4 8 rest))
     ⊎ ((fault ≡ Fraction at) × (number 4 8 rest ≤ MAX_FRAME_BYTES))
 
+-- a fault of a record's head is the first rule that is broken
 pub first_broken_of_head : (at : ℕ) (rest : List ℕ) (fault : PcapFault) → BreaksRecord at rest fault → FirstBrokenOfHead at rest fault
 first_broken_of_head at rest (TooLong place len) (place-is, len-is, over) = inl (rw (place-is, len-is) refl, over)
 first_broken_of_head at rest (Fraction place) (place-is, within, over) = inr (rw place-is refl, within)
@@ -266,7 +278,7 @@ record_once old new new' p q at rest (inr (inr (frame, bytes, e, kept, text, is,
       reading_same new new' (place ∙ ap (λ (t : List ℕ). at + length t) one.0 ∙ sym place') one.2 (kept ∙ sym kept'),
     )
 
--- a reader has one answer, which leaves one reading
+-- answers of the same kind are one, and of two kinds there are none
 pub of_kinds : (old new new' : Reading) (p q : Pull)
     → ((new ≡ old) × InHeader old p) ⊎ AtRecord old (InRecord old p new)
     → ((new' ≡ old) × InHeader old q) ⊎ AtRecord old (InRecord old q new')
@@ -278,5 +290,6 @@ of_kinds old new new' p q (inr there) (inr there') =
     both_at old (InRecord old p new) (InRecord old q new') ((p ≡ q) × (new ≡ new')) there there'
     (λ at rest fact fact'. record_once old new new' p q at rest fact fact')
 
+-- a reader has one answer, which leaves one reading
 pub pulls_once : (old new new' : Reading) (p q : Pull) → Pulls old p new → Pulls old q new' → (p ≡ q) × (new ≡ new')
 pulls_once old new new' p q answer other = of_kinds old new new' p q (kinds old new p answer) (kinds old new' q other)

@@ -56,6 +56,7 @@ pub left_of_capture : (text : List ℕ) (finished : Bool) (frames : List Frame) 
     → AreLeft (record { place = 0; rest = text; finished = finished }) frames
 left_of_capture text finished frames (header, rest, text-is, is, records) = inl (refl, header, rest, text-is, is, records)
 
+-- and the other way round
 pub capture_of_left : (text : List ℕ) (finished : Bool) (frames : List Frame)
     → AreLeft (record { place = 0; rest = text; finished = finished }) frames → IsCapture text frames
 capture_of_left text finished frames (inl (start, header, rest, text-is, is, records)) = (header, rest, text-is, is, records)

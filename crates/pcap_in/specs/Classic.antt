@@ -35,8 +35,10 @@ pub record IsRecord (bytes : List ℕ) (frame : Frame) : Type 0 where
 abbrev pub AreRecords : List ℕ → List Frame → Type 0
 AreRecords text [] = text ≡ []
 AreRecords text (frame ∷ frames) =
-    (record_bytes rest : List ℕ) × (text ≡ record_bytes ++ rest) × IsRecord record_bytes frame × AreRecords rest frames
+    (record_bytes rest : List ℕ) × (text ≡ record_bytes ++ rest)
+    × IsRecord record_bytes frame × AreRecords rest frames
 
 -- a text is a capture of these frames
 abbrev pub IsCapture : List ℕ → List Frame → Type 0
-IsCapture text frames = (header rest : List ℕ) × (text ≡ header ++ rest) × IsHeader header × AreRecords rest frames
+IsCapture text frames =
+    (header rest : List ℕ) × (text ≡ header ++ rest) × IsHeader header × AreRecords rest frames

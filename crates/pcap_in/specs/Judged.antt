@@ -20,14 +20,17 @@ abbrev pub IsJudgedRecord : ℕ → List ℕ → Record → Type 0
 IsJudgedRecord at rest item.Part = EndsInRecord rest
 IsJudgedRecord at rest (item.Broken fault) = (16 ≤ length rest) × BreaksRecord at rest fault
 IsJudgedRecord at rest (item.Whole stamp len) =
-    (16 + len ≤ length rest) × IsRecord (take (16 + len) rest) (record { stamp = stamp; packet = take len (drop 16 rest) })
+    (16 + len ≤ length rest)
+    × IsRecord (take (16 + len) rest) (record { stamp = stamp; packet = take len (drop 16 rest) })
 
 -- what is answered behind an accepted header, from the bytes at an offset on, and what it leaves
 abbrev pub PullsRecord : ℕ → List ℕ → Reading → Pull → Reading → Type 0
 PullsRecord at rest old (pull.Frame frame) new =
-    (new.finished ≡ old.finished) × (record_bytes : List ℕ) × (rest ≡ record_bytes ++ new.rest) × IsRecord record_bytes frame
+    (new.finished ≡ old.finished)
+    × (record_bytes : List ℕ) × (rest ≡ record_bytes ++ new.rest) × IsRecord record_bytes frame
     × (new.place ≡ at + length record_bytes)
 PullsRecord at rest old pull.More new = (new ≡ old) × (old.finished ≡ false) × EndsInRecord rest
 PullsRecord at rest old pull.End new = (new ≡ old) × (old.finished ≡ true) × (rest ≡ [])
 PullsRecord at rest old (pull.Bad fault) new =
-    (new ≡ old) × (((16 ≤ length rest) × BreaksRecord at rest fault) ⊎ IsTornRecord at rest old.finished fault)
+    (new ≡ old)
+    × (((16 ≤ length rest) × BreaksRecord at rest fault) ⊎ IsTornRecord at rest old.finished fault)

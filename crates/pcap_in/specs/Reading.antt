@@ -18,7 +18,8 @@ pub record Reading : Type 0 where
 -- what stands at the reader's place behind an accepted header: a record or nothing, from this offset on
 abbrev pub AtRecord : Reading → (ℕ → List ℕ → Type 0) → Type 0
 AtRecord reading P =
-    ((reading.place ≡ 0) × (header rest : List ℕ) × (reading.rest ≡ header ++ rest) × IsHeader header × P 24 rest)
+    ((reading.place ≡ 0)
+    × (header rest : List ℕ) × (reading.rest ≡ header ++ rest) × IsHeader header × P 24 rest)
     ⊎ ((0 < reading.place) × P reading.place reading.rest)
 
 -- what stands at the reader's place are the records of these frames, to their end
@@ -33,22 +34,27 @@ EndsInHeader reading = (reading.place ≡ 0) × (length reading.rest < 24)
 abbrev pub EndsInRecord : List ℕ → Type 0
 EndsInRecord rest =
     (length rest < 16)
-    ⊎ ((number 4 8 rest ≤ MAX_FRAME_BYTES) × (number 4 4 rest < 1000000) × (length rest < 16 + number 4 8 rest))
+    ⊎ ((number 4 8 rest ≤ MAX_FRAME_BYTES) × (number 4 4 rest < 1000000)
+    × (length rest < 16 + number 4 8 rest))
 
 -- the rule that a whole header breaks: of several the first
 abbrev pub BreaksHeader : List ℕ → PcapFault → Type 0
 BreaksHeader rest Magic = take 4 rest ≢ micros_magic
-BreaksHeader rest Version = (take 4 rest ≡ micros_magic) × ¬ ((number 2 4 rest ≡ 2) × (number 2 6 rest ≡ 4))
+BreaksHeader rest Version =
+    (take 4 rest ≡ micros_magic) × ¬ ((number 2 4 rest ≡ 2) × (number 2 6 rest ≡ 4))
 BreaksHeader rest Link =
-    (take 4 rest ≡ micros_magic) × (number 2 4 rest ≡ 2) × (number 2 6 rest ≡ 4) × (number 4 20 rest ≢ 1)
+    (take 4 rest ≡ micros_magic) × (number 2 4 rest ≡ 2) × (number 2 6 rest ≡ 4)
+    × (number 4 20 rest ≢ 1)
 BreaksHeader rest (Torn at) = ⊥
 BreaksHeader rest (TooLong at len) = ⊥
 BreaksHeader rest (Fraction at) = ⊥
 
 -- the rule that a record's whole head breaks, at the offset where the record begins
 abbrev pub BreaksRecord : ℕ → List ℕ → PcapFault → Type 0
-BreaksRecord at rest (TooLong place len) = (place ≡ at) × (len ≡ number 4 8 rest) × (MAX_FRAME_BYTES < number 4 8 rest)
-BreaksRecord at rest (Fraction place) = (place ≡ at) × (number 4 8 rest ≤ MAX_FRAME_BYTES) × (1000000 ≤ number 4 4 rest)
+BreaksRecord at rest (TooLong place len) =
+    (place ≡ at) × (len ≡ number 4 8 rest) × (MAX_FRAME_BYTES < number 4 8 rest)
+BreaksRecord at rest (Fraction place) =
+    (place ≡ at) × (number 4 8 rest ≤ MAX_FRAME_BYTES) × (1000000 ≤ number 4 4 rest)
 BreaksRecord at rest Magic = ⊥
 BreaksRecord at rest Version = ⊥
 BreaksRecord at rest Link = ⊥
@@ -56,7 +62,8 @@ BreaksRecord at rest (Torn place) = ⊥
 
 -- no more bytes come, and they end inside the record at an offset
 abbrev pub IsTornRecord : ℕ → List ℕ → Bool → PcapFault → Type 0
-IsTornRecord at rest finished (Torn place) = (finished ≡ true) × (place ≡ at) × (0 < length rest) × EndsInRecord rest
+IsTornRecord at rest finished (Torn place) =
+    (finished ≡ true) × (place ≡ at) × (0 < length rest) × EndsInRecord rest
 IsTornRecord at rest finished Magic = ⊥
 IsTornRecord at rest finished Version = ⊥
 IsTornRecord at rest finished Link = ⊥
@@ -72,7 +79,7 @@ IsTornHeader reading Link = ⊥
 IsTornHeader reading (TooLong place len) = ⊥
 IsTornHeader reading (Fraction place) = ⊥
 
--- the item at the reader's place breaks its rule
+-- the item at the reader's place breaks its rule, or no more bytes come and they end inside it
 abbrev pub IsFaulty : Reading → PcapFault → Type 0
 IsFaulty reading fault =
     ((reading.place ≡ 0) × (24 ≤ length reading.rest) × BreaksHeader reading.rest fault)
@@ -84,9 +91,11 @@ IsFaulty reading fault =
 abbrev pub Pulls : Reading → Pull → Reading → Type 0
 Pulls old (pull.Frame frame) new =
     (new.finished ≡ old.finished)
-    × AtRecord old (λ at rest. (record_bytes : List ℕ) × (rest ≡ record_bytes ++ new.rest) × IsRecord record_bytes frame
+    × AtRecord old (λ at rest.
+    (record_bytes : List ℕ) × (rest ≡ record_bytes ++ new.rest) × IsRecord record_bytes frame
     × (new.place ≡ at + length record_bytes))
 Pulls old pull.More new =
-    (new ≡ old) × (old.finished ≡ false) × (EndsInHeader old ⊎ AtRecord old (λ at rest. EndsInRecord rest))
+    (new ≡ old) × (old.finished ≡ false)
+    × (EndsInHeader old ⊎ AtRecord old (λ at rest. EndsInRecord rest))
 Pulls old pull.End new = (new ≡ old) × (old.finished ≡ true) × AtRecord old (λ at rest. rest ≡ [])
 Pulls old (pull.Bad fault) new = (new ≡ old) × IsFaulty old fault

@@ -10,7 +10,8 @@ ghost use Rattle.pcap_in.specs.declared.pull.Pull.TheVariants as pull;
 
 /// No text is the capture of two lists of frames.
 pub fn one_reading()
-    ensures { (text : List ℕ) (xs ys : List Frame) → IsCapture text xs → IsCapture text ys → xs ≡ ys }
+    ensures { (text : List ℕ) (frames others : List Frame)
+        → IsCapture text frames → IsCapture text others → frames ≡ others }
 {}
 
 /// A reader has one answer, which leaves one reader: so More, End and Bad come exactly where their
@@ -23,7 +24,8 @@ pub fn one_answer()
 /// Before a frame is pulled, the frames left are those of the capture that was fed.
 pub fn a_captures_frames_are_left()
     ensures { (text : List ℕ) (finished : Bool) (frames : List Frame)
-        → AreLeft (record { place = 0; rest = text; finished = finished }) frames ↔ IsCapture text frames }
+        → AreLeft (record { place = 0; rest = text; finished = finished }) frames
+        ↔ IsCapture text frames }
 {}
 
 /// Where frames are left, the first of them is pulled and the others are left.

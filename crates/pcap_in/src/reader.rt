@@ -23,9 +23,12 @@ impl Model for Reader {
 
     ghost Value = { Reading };
 
-    ghost view = { λ r. record { place = r.place; rest = drop r.used r.buffer.items; finished = r.finished } };
+    ghost view = { λ r.
+        record { place = r.place; rest = drop r.used r.buffer.items; finished = r.finished } };
 
-    ghost invariant = { λ r. (r.used ≤ length r.buffer.items) × (r.place + length (drop r.used r.buffer.items) < 2 ^ 64) };
+    ghost invariant = { λ r.
+        (r.used ≤ length r.buffer.items)
+        × (r.place + length (drop r.used r.buffer.items) < 2 ^ 64) };
 }
 
 impl Reader {
@@ -50,7 +53,8 @@ impl Reader {
     pub fn feed(&mut self, piece: &[u8]) -> Result<(), NoMemory>
         requires open { self.old.finished ≡ false }
         requires fits { self.old.place + length self.old.rest + length piece.now < 2 ^ 64 }
-        ensures ok { OnOk result (self.new ≡ record self.old { rest = self.old.rest ++ piece.now }) }
+        ensures ok { OnOk result
+            (self.new ≡ record self.old { rest = self.old.rest ++ piece.now }) }
         ensures err { OnErr result (self.new ≡ self.old) }
     {
         self.make_room();
