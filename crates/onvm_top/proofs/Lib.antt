@@ -2,3 +2,4 @@ pub mod Captured
 pub mod Emitting
 pub mod Known
 pub mod Sent
+pub mod Stopped

@@ -5,3 +5,4 @@ pub mod Fed
 pub mod Known
 pub mod Limits
 pub mod Replay
+pub mod Stops

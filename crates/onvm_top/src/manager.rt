@@ -1,12 +1,14 @@
 //! A whole run.
-ghost use Rattle.std.specs.Prelude.{◌≡◌, ◌≤◌, ℕ, List, map, string_bytes, Ok, Err, Some, OnOk, IfOk};
-ghost use Rattle.onvm_host.specs.Causes.{Rose, SameNames};
-ghost use Rattle.onvm_host.specs.Files.{Entries, file_of};
-ghost use Rattle.pcap_in.specs.Classic.{IsCapture};
+ghost use Rattle.std.specs.Prelude.{◌≡◌, ◌≤◌, ℕ, List, map, string_bytes, Some, OnOk, IfOk, IfErr};
+ghost use Rattle.onvm_host.specs.Causes.{SameNames};
+ghost use Rattle.onvm_host.specs.Files.{Entries};
 ghost use Rattle.pcap_in.specs.Emitted.{emit};
+ghost use Rattle.onvm_top.specs.Answers.{IsChain, IsGoodCapture};
 ghost use Rattle.onvm_top.specs.Command.{MayReplay};
+ghost use Rattle.onvm_top.specs.Known.{OnTold};
 ghost use Rattle.onvm_top.specs.Limits.{IsWithinLimits};
 ghost use Rattle.onvm_top.specs.Replay.{IsDone, OnlyChanges};
+ghost use Rattle.onvm_top.specs.Stops.{IsStopped, StopsAtCapture, StopsAtChain, StopsAtOutput};
 
 use crate::chain::{FORWARDING_CHAIN, is_forwarding_chain};
 use crate::command::command_of;
@@ -46,6 +48,10 @@ pub fn run<R: AllocGlobal, H: Host, C: Clock, G: Gate>(
 fn replay<H: Host>(alloc: Global, words: &[String], host: &mut H) -> Result<(), Fault>
     requires names { MayReplay (H.may_open host.old) (H.may_create host.old) (map string_bytes words.now) }
     ensures done { OnOk result (IsDone (map string_bytes words.now) (H.files host.old) (H.files host.new)) }
+    ensures stopped { IfErr result (λ fault. IsStopped (map string_bytes words.now)
+        (H.files host.old) (H.files host.new) (H.faults host.old) (H.faults host.new) fault) }
+    ensures said { H.said host.new ≡ H.said host.old }
+    ensures later { H.faults host.old ≤ H.faults host.new }
 {
     let Some(command) = command_of(words) else {
         return Err(Fault::Words);
@@ -59,9 +65,8 @@ fn replay<H: Host>(alloc: Global, words: &[String], host: &mut H) -> Result<(), 
 // Reads the chain file, and refuses another than the one that forwards.
 fn read_chain<H: Host>(host: &mut H, name: &str) -> Result<(), Fault>
     requires { H.may_open host.old name.now }
-    ensures ok { OnOk result ((files : Entries) → H.files host.old ≡ Some files
-        → file_of name.now files ≡ Some FORWARDING_CHAIN) }
-    ensures read { result ≡ Err Fault.ReadChain → Rose (H.faults host.old) (H.faults host.new) }
+    ensures ok { OnOk result (OnTold (H.files host.old) (IsChain name.now)) }
+    ensures err { IfErr result (λ fault. StopsAtChain name.now (H.files host.old) (H.faults host.old) (H.faults host.new) fault) }
     ensures later { H.faults host.old ≤ H.faults host.new }
     ensures files { H.files host.new ≡ H.files host.old }
     ensures said { H.said host.new ≡ H.said host.old }
@@ -84,10 +89,9 @@ fn read_chain<H: Host>(host: &mut H, name: &str) -> Result<(), Fault>
 // Reads the capture to its end.
 fn read_capture<H: Host>(alloc: Global, host: &mut H, name: &str) -> Result<Frames, Fault>
     requires { H.may_open host.old name.now }
-    ensures ok { IfOk result (λ frames. (files : Entries) → H.files host.old ≡ Some files
-        → (text : List ℕ) × (file_of name.now files ≡ Some text) × IsCapture text frames) }
+    ensures ok { IfOk result (λ frames. OnTold (H.files host.old) (λ files. IsGoodCapture name.now files frames)) }
     ensures within { IfOk result (λ frames. IsWithinLimits frames) }
-    ensures read { result ≡ Err (Fault.ReadCapture PORT) → Rose (H.faults host.old) (H.faults host.new) }
+    ensures err { IfErr result (λ fault. StopsAtCapture name.now (H.files host.old) (H.faults host.old) (H.faults host.new) fault) }
     ensures later { H.faults host.old ≤ H.faults host.new }
     ensures files { H.files host.new ≡ H.files host.old }
     ensures said { H.said host.new ≡ H.said host.old }
@@ -114,8 +118,8 @@ fn write_output<H: Host>(host: &mut H, name: &str, frames: &Frames) -> Result<()
     requires { H.may_create host.old name.now }
     ensures ok { OnOk result ((files : Entries) → H.files host.old ≡ Some files
         → (now : Entries) × (H.files host.new ≡ Some now) × OnlyChanges name.now (emit frames.now) files now) }
-    ensures write { result ≡ Err Fault.Write → Rose (H.faults host.old) (H.faults host.new) }
-    ensures memory { result ≡ Err Fault.Memory → H.files host.new ≡ H.files host.old }
+    ensures err { IfErr result (λ fault. StopsAtOutput name.now frames.now
+        (H.files host.old) (H.files host.new) (H.faults host.old) (H.faults host.new) fault) }
     ensures later { H.faults host.old ≤ H.faults host.new }
     ensures said { H.said host.new ≡ H.said host.old }
 {

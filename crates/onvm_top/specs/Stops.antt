@@ -1,0 +1,44 @@
+-- Where a run stops, by which fault, and what that tells.
+use Rattle.std.specs.Prelude.{◌≡◌, ◌⊎◌, ℕ, List, Option}
+use Rattle.onvm_base.specs.declared.frame.Frame.{Frame}
+use Rattle.onvm_base.specs.declared.ids.PortId.{PortId}
+use Rattle.onvm_host.specs.Causes.{Rose}
+use Rattle.onvm_host.specs.Files.{Entries}
+use Rattle.pcap_in.specs.declared.pull.PcapFault.{PcapFault}
+use Rattle.onvm_top.specs.declared.fault.Fault.{Fault}
+use Rattle.onvm_top.specs.declared.fault.Fault.TheVariants.{Words, Plan, Broken, TooMany, ReadChain, ReadCapture, Write, Memory}
+use Rattle.onvm_top.specs.Answers.{HoldsFront, IsChain, IsFaultyCapture, IsGoodCapture, IsLargeCapture, IsNoCommand, IsOtherChain}
+use Rattle.onvm_top.specs.Command.{Command, IsCommand}
+use Rattle.onvm_top.specs.Known.{OnTold}
+
+-- at the chain file of this name
+abbrev pub StopsAtChain : List ℕ → Option Entries → ℕ → ℕ → Fault → Type 0
+StopsAtChain name told before now fault =
+    ((fault ≡ Plan) × OnTold told (IsOtherChain name))
+    ⊎ ((fault ≡ ReadChain) × Rose before now)
+    ⊎ (fault ≡ Memory)
+
+-- at the capture of this name
+abbrev pub StopsAtCapture : List ℕ → Option Entries → ℕ → ℕ → Fault → Type 0
+StopsAtCapture name told before now fault =
+    ((port : PortId) × (cause : PcapFault) × (fault ≡ Broken port cause) × OnTold told (λ files. IsFaultyCapture name files cause))
+    ⊎ ((port : PortId) × (fault ≡ TooMany port) × OnTold told (IsLargeCapture name))
+    ⊎ ((port : PortId) × (fault ≡ ReadCapture port) × Rose before now)
+    ⊎ (fault ≡ Memory)
+
+-- at the output of this name, to which these frames go
+abbrev pub StopsAtOutput : List ℕ → List Frame → Option Entries → Option Entries → ℕ → ℕ → Fault → Type 0
+StopsAtOutput name frames told told_now before now fault =
+    ((fault ≡ Write) × Rose before now × OnTold told (λ files. HoldsFront name frames files told_now))
+    ⊎ ((fault ≡ Memory) × (told_now ≡ told))
+
+-- at the words, the chain file, the capture or the output. Before the output no file changes
+abbrev pub IsStopped : List (List ℕ) → Option Entries → Option Entries → ℕ → ℕ → Fault → Type 0
+IsStopped words told told_now before now fault =
+    ((fault ≡ Words) × IsNoCommand words × (told_now ≡ told))
+    ⊎ ((command : Command) × IsCommand words command × StopsAtChain command.chain told before now fault × (told_now ≡ told))
+    ⊎ ((command : Command) × IsCommand words command × OnTold told (IsChain command.chain)
+    × StopsAtCapture command.capture told before now fault × (told_now ≡ told))
+    ⊎ ((command : Command) × IsCommand words command × OnTold told (IsChain command.chain)
+    × (frames : List Frame) × OnTold told (λ files. IsGoodCapture command.capture files frames)
+    × StopsAtOutput command.out frames told told_now before now fault)
