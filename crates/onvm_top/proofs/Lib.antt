@@ -1,3 +1,4 @@
+pub mod Answered
 pub mod Captured
 pub mod Emitting
 pub mod Known

@@ -1,11 +1,13 @@
 //! A whole run.
-ghost use Rattle.std.specs.Prelude.{◌≡◌, ◌≤◌, ℕ, List, map, string_bytes, Some, OnOk, IfOk, IfErr};
-ghost use Rattle.onvm_host.specs.Causes.{SameNames};
+ghost use Rattle.std.specs.Prelude.{◌≡◌, ◌≢◌, ◌≤◌, ◌⊎◌, ℕ, List, map, string_bytes, Some, OnOk, IfOk, IfErr};
+ghost use Rattle.onvm_base.specs.declared.frame.Frame.{Frame};
+ghost use Rattle.onvm_host.specs.Causes.{Rose, SameNames};
 ghost use Rattle.onvm_host.specs.Files.{Entries};
 ghost use Rattle.pcap_in.specs.Emitted.{emit};
-ghost use Rattle.onvm_top.specs.Answers.{IsChain, IsGoodCapture};
-ghost use Rattle.onvm_top.specs.Command.{MayReplay};
-ghost use Rattle.onvm_top.specs.Known.{OnTold};
+ghost use Rattle.onvm_top.specs.Answers.{FailsToRead, FailsToWrite, HasBadCapture, HasOtherChain, IsBadCapture, IsChain, IsGoodCapture, IsNoCommand, IsOtherChain, IsUnlessStopped};
+ghost use Rattle.onvm_top.specs.Command.{Command, IsCommand, MayReplay};
+ghost use Rattle.onvm_top.specs.Fault.{line_of, status_of};
+ghost use Rattle.onvm_top.specs.Known.{OnTold, SaysOnce};
 ghost use Rattle.onvm_top.specs.Limits.{IsWithinLimits};
 ghost use Rattle.onvm_top.specs.Replay.{IsDone, OnlyChanges};
 ghost use Rattle.onvm_top.specs.Stops.{IsStopped, StopsAtCapture, StopsAtChain, StopsAtOutput};
@@ -32,8 +34,37 @@ pub fn run<R: AllocGlobal, H: Host, C: Clock, G: Gate>(
     _gate: &G,
 ) -> Status
     requires names { MayReplay (H.may_open host.old) (H.may_create host.old) (map string_bytes words.now) }
+
+    // What each status tells.
     ensures done { result ≡ Status.Done
         → IsDone (map string_bytes words.now) (H.files host.old) (H.files host.new) }
+    ensures words { result ≡ Status.Words → IsNoCommand (map string_bytes words.now) }
+    ensures plan { result ≡ Status.Plan → HasOtherChain (map string_bytes words.now) (H.files host.old) }
+    ensures capture { result ≡ Status.Capture → HasBadCapture (map string_bytes words.now) (H.files host.old) }
+    ensures read { result ≡ Status.Read
+        → FailsToRead (map string_bytes words.now) (H.faults host.old) (H.faults host.new) }
+    ensures write { result ≡ Status.Write → FailsToWrite (map string_bytes words.now)
+        (H.files host.old) (H.files host.new) (H.faults host.old) (H.faults host.new) }
+
+    // The other way round.
+    ensures no_command { IsNoCommand (map string_bytes words.now) → result ≡ Status.Words }
+    ensures other_chain { (command : Command) → IsCommand (map string_bytes words.now) command
+        → (files : Entries) → H.files host.old ≡ Some files → IsOtherChain command.chain files
+        → IsUnlessStopped Status.Plan result }
+    ensures bad_capture { (command : Command) → IsCommand (map string_bytes words.now) command
+        → (files : Entries) → H.files host.old ≡ Some files → IsChain command.chain files
+        → IsBadCapture command.capture files → IsUnlessStopped Status.Capture result }
+    ensures complete { (command : Command) → IsCommand (map string_bytes words.now) command
+        → (files : Entries) → H.files host.old ≡ Some files → IsChain command.chain files
+        → (frames : List Frame) → IsGoodCapture command.capture files frames
+        → ¬ (Rose (H.faults host.old) (H.faults host.new)) → (result ≡ Status.Done) ⊎ (result ≡ Status.Memory) }
+
+    // Nothing is left behind, and what stopped the run is said once.
+    ensures none_made { result ≢ Status.Done → result ≢ Status.Write → H.files host.new ≡ H.files host.old }
+    ensures quiet { result ≡ Status.Done → H.said host.new ≡ H.said host.old }
+    ensures line { result ≢ Status.Done → (fault : Fault) × (count : ℕ) × (status_of fault ≡ result)
+        × IsStopped (map string_bytes words.now) (H.files host.old) (H.files host.new) (H.faults host.old) count fault
+        × SaysOnce (H.said host.old) (H.said host.new) count (H.faults host.new) (line_of fault) }
 {
     match replay(rt.alloc(), words, host) {
         Ok(()) => Status::Done,
