@@ -1,6 +1,7 @@
 //! A host over real files and standard output. It tells nothing of content.
 ghost use Rattle.std.specs.Prelude.{◌≡◌, ◌≤◌, ◌<◌, ⊤, None, IfOk, length};
 ghost use Rattle.std.specs.Io.{WritesAtMost};
+ghost use Rattle.std.specs.IoError.{error_kind};
 ghost use Rattle.onvm_host.specs.Causes.{HasCause, Rose};
 
 use crate::fault::{HostFault, raise};
@@ -88,7 +89,9 @@ pub struct FileHost<R> {
 }
 
 impl<R> FileHost<R> {
-    pub fn make(rt: R) -> FileHost<R> {
+    pub fn make(rt: R) -> FileHost<R>
+        ensures { result.faults ≡ 0 }
+    {
         FileHost { rt, faults: 0 }
     }
 
@@ -96,6 +99,7 @@ impl<R> FileHost<R> {
     fn fault_of(&mut self, error: io::Error) -> HostFault
         ensures later { self.old.faults ≤ self.new.faults }
         ensures failed { result ≡ HostFault.Failed → Rose self.old.faults self.new.faults }
+        ensures memory { result ≡ HostFault.Memory → error_kind error ≡ ErrorKind.OutOfMemory }
     {
         match error.kind() {
             ErrorKind::OutOfMemory => HostFault::Memory,
