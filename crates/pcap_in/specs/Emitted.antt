@@ -1,5 +1,5 @@
 -- The emitted spelling: numbers low byte first, nanoseconds, snap length 262,144, link type Ethernet.
-use Rattle.std.specs.Prelude.{ℕ, ◌+◌, min, List, [], ◌∷◌, ◌++◌, length}
+use Rattle.std.specs.Prelude.{ℕ, ◌+◌, min, List, ◌++◌, length}
 use Rattle.std.specs.List.{flat_map}
 use Rattle.byteorder.specs.Endian.{little_bytes}
 use Rattle.onvm_base.specs.declared.frame.Frame.{Frame}

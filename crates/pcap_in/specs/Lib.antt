@@ -1,3 +1,5 @@
 pub mod Classic
 pub mod Emitted
+pub mod Faulty
+pub mod Judged
 pub mod Reading

@@ -8,8 +8,12 @@
 #![tactic(auto)]
 
 mod emit;
+mod judge;
+pub mod laws;
 mod pull;
 mod reader;
+#[cfg(test)]
+mod tests;
 
 pub use emit::{frame_head, header};
 pub use pull::{PcapFault, Pull};

@@ -1,16 +1,11 @@
 //! A reader of captures, in whatever pieces they come.
-ghost use Rattle.std.specs.Prelude.{◌≡◌, ◌+◌, ◌^◌, ◌<◌, ◌≤◌, ◌++◌, [], true, false, length, OnOk, OnErr, IfOk};
+ghost use Rattle.std.specs.Prelude.{◌≡◌, ◌+◌, ◌^◌, ◌<◌, ◌≤◌, ◌++◌, [], true, false, length, drop, OnOk, OnErr, IfOk};
 
-use byteorder::{ByteOrder, LittleEndian};
-use onvm_base::{Frame, MAX_FRAME_BYTES, NoMemory, Packet, Stamp};
+use crate::judge::{HEAD_LEN, HEADER_LEN, Header, Record, judge_header, judge_record};
+use crate::pull::{PcapFault, Pull};
+use onvm_base::{Frame, NoMemory, Packet};
 use std::alloc::Global;
 use std::marker::Model;
-
-use crate::pull::{PcapFault, Pull};
-
-const HEADER_LEN: usize = 24;
-const HEAD_LEN: usize = 16;
-const MICROS_MAGIC: [u8; 4] = [0xd4, 0xc3, 0xb2, 0xa1];
 
 /// A reader of one capture. It keeps the bytes that no frame has used.
 #[derive(Debug, Drop)]
@@ -35,6 +30,7 @@ impl Model for Reader {
 
 impl Reader {
     ghost use Rattle.pcap_in.specs.Reading.{Pulls};
+    ghost use Rattle.pcap_in.specs.Judged.{PullsRecord};
 
     /// A reader that has been fed nothing. It takes no memory.
     pub fn make(alloc: Global) -> Reader
@@ -57,8 +53,21 @@ impl Reader {
         ensures ok { OnOk result (self.new ≡ record self.old { rest = self.old.rest ++ piece.now }) }
         ensures err { OnErr result (self.new ≡ self.old) }
     {
+        self.make_room();
         self.buffer.extend_from_slice(piece)?;
         Ok(())
+    }
+
+    // Lets go of the bytes that frames have used, once they are at least as many as the others: so
+    // each byte is moved at most once on average.
+    fn make_room(&mut self)
+        ensures { self.new ≡ self.old }
+    {
+        let kept = self.buffer.len() - self.used;
+        if self.used >= kept {
+            keep_from(&mut self.buffer, self.used);
+            self.used = 0;
+        }
     }
 
     /// Says that no more bytes come.
@@ -73,6 +82,57 @@ impl Reader {
         ensures pull { IfOk result (λ pull. Pulls self.old pull self.new) }
         ensures err { OnErr result (self.new ≡ self.old) }
     {
-        Ok(Pull::More)
+        if self.place > 0 {
+            return self.next_record(alloc, 0);
+        }
+        match judge_header(self.rest_behind(0)) {
+            Header::Part if self.finished => Ok(Pull::Bad(PcapFault::Torn { at: 0 })),
+            Header::Part => Ok(Pull::More),
+            Header::Broken(fault) => Ok(Pull::Bad(fault)),
+            Header::Whole => self.next_record(alloc, HEADER_LEN),
+        }
     }
+
+    // What stands so many bytes behind the reader's place.
+    fn rest_behind(&self, skipped: usize) -> &[u8]
+        requires { skipped ≤ length self.now.rest }
+        ensures { result.now ≡ drop skipped self.now.rest }
+    {
+        &self.buffer[self.used + skipped..]
+    }
+
+    // Pulls the record that stands so many bytes behind the reader's place.
+    fn next_record(&mut self, alloc: Global, skipped: usize) -> Result<Pull, NoMemory>
+        requires { skipped ≤ length self.old.rest }
+        ensures pull { IfOk result (λ pull. PullsRecord (self.old.place + skipped)
+            (drop skipped self.old.rest) self.old pull self.new) }
+        ensures err { OnErr result (self.new ≡ self.old) }
+    {
+        let at = self.place + skipped as u64;
+        let rest = self.rest_behind(skipped);
+        match judge_record(at, rest) {
+            Record::Part if !self.finished => Ok(Pull::More),
+            Record::Part if rest.is_empty() => Ok(Pull::End),
+            Record::Part => Ok(Pull::Bad(PcapFault::Torn { at })),
+            Record::Broken(fault) => Ok(Pull::Bad(fault)),
+            Record::Whole { stamp, len } => {
+                let packet = Packet::from_slice(alloc, &rest[HEAD_LEN..HEAD_LEN + len])?;
+                self.used += skipped + HEAD_LEN + len;
+                self.place = at + (HEAD_LEN + len) as u64;
+                Ok(Pull::Frame(Frame { stamp, packet }))
+            }
+        }
+    }
+}
+
+// Takes out the bytes before `used`.
+fn keep_from(bytes: &mut Vec<u8>, used: usize)
+    requires within { used ≤ length bytes.old.items }
+    requires half { length bytes.old.items ≤ used + used }
+    ensures { bytes.new.items ≡ drop used bytes.old.items }
+{
+    let kept = bytes.len() - used;
+    let (front, behind) = bytes.split_at_mut(used);
+    front[..kept].copy_from_slice(behind);
+    bytes.truncate(kept);
 }

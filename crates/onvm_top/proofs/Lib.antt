@@ -1,0 +1,4 @@
+pub mod Captured
+pub mod Emitting
+pub mod Known
+pub mod Sent

@@ -1,0 +1,15 @@
+use Rattle.std.proofs.Common.{◌≡◌, sym, subst, ◌≤◌, ◌<◌, List, ℕ, length, take, arith, rules}
+use Rattle.std.specs.Io.KnownBytes.{Consumes}
+use Rattle.onvm_top.proofs.Known.{Consumes-append, length-written, take-written}
+use Rattle.onvm_top.proofs.chain.fill.Goals as goal
+
+pub loop-len-preserved : goal.loop-len-preserved
+loop-len-preserved g c = record {
+  within = length-written c.loop-len.len c.in_ok-count.count c.loop-len.room c.take.new.into _ (omega arith) c.in_ok-count.ensures.bound.0;
+  later = search rules;
+  taken =
+    let P : List ℕ → Type 0 = Consumes (g.S.Source.left c.args.source.now) (g.S.Source.left c.take.new.self) in
+    subst P
+      (sym (take-written c.loop-len.len c.in_ok-count.count c.loop-len.room c.take.new.into _ (omega arith) c.in_ok-count.ensures.bound.0))
+      (Consumes-append _ _ _ (take c.loop-len.len c.loop-len.room) (take c.in_ok-count.count c.take.new.into) c.loop-len.invariant.taken c.in_ok-count.ensures.bytes.0);
+}

@@ -1,0 +1,15 @@
+use Rattle.std.proofs.Common.{◌≡◌, List, ℕ, length}
+use Rattle.onvm_top.specs.Fed.{HasRead}
+use Rattle.onvm_top.specs.Limits.{IsWithinLimits}
+use Rattle.onvm_top.proofs.input.pull_frames.Given as goal
+
+-- what was read before is read still, and what was pulled besides
+abbrev pub invariant-pulls : goal.invariant-pulls
+invariant-pulls l = record {
+  finished : l.reader.finished ≡ l.initial.reader.finished;
+  within : IsWithinLimits l.received;
+  read : (fed : List ℕ) → HasRead fed l.initial.received l.initial.reader → HasRead fed l.received l.reader;
+}
+
+abbrev pub decreases-pulls : goal.decreases-pulls
+decreases-pulls l = length l.reader.rest

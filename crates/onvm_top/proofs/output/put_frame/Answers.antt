@@ -1,0 +1,17 @@
+use Rattle.std.proofs.Common.{◌∙◌, ap, subst, ℕ, List, length}
+use Rattle.std.specs.Io.KnownBytes.{Appends}
+use Rattle.pcap_in.specs.Emitted.{emitted_head}
+use Rattle.onvm_top.proofs.Known.{Appends-append}
+use Rattle.onvm_top.proofs.output.put_frame.Goals as goal
+
+pub returns-clause-ok : goal.returns-clause-ok
+returns-clause-ok g c =
+    let before = g.K.Sink.held c.args.sink.now in
+    let middle = g.K.Sink.held c.put_all.new.sink in
+    let after = g.K.Sink.held c.put_all-2.new.sink in
+    let Head : List ℕ → Type 0 = Appends before middle in
+    let Body : List ℕ → Type 0 = Appends middle after in
+    let head_is = c.frame_head.ensures ∙ ap (λ t. emitted_head c.args.frame.now.stamp (length t)) c.bytes-bytes.ensures.same in
+    Appends-append before middle after (emitted_head c.args.frame.now.stamp (length c.args.frame.now.packet)) c.args.frame.now.packet
+      (subst Head head_is c.in_ok-put_all.ensures.ok)
+      (subst Body c.bytes-bytes.ensures.same c.in_ok-put_all-2.ensures.ok)

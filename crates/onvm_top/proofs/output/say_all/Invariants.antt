@@ -1,0 +1,13 @@
+use Rattle.std.proofs.Common.{◌≡◌, ◌≤◌, ◌++◌, length, List, ℕ}
+use Rattle.std.specs.Io.KnownBytes.{Appends}
+use Rattle.onvm_top.proofs.output.say_all.Given as goal
+
+-- the front of the piece was appended, and the count has not fallen
+abbrev pub invariant-loop-rest : goal.invariant-loop-rest
+invariant-loop-rest g l =
+    (g.H.Host.faults l.initial.host ≤ g.H.Host.faults l.host)
+    × (g.H.Host.files l.host ≡ g.H.Host.files l.initial.host)
+    × ((front : List ℕ) × (l.piece ≡ front ++ l.rest) × Appends (g.H.Host.said l.initial.host) (g.H.Host.said l.host) front)
+
+abbrev pub decreases-loop-rest : goal.decreases-loop-rest
+decreases-loop-rest g l = length l.rest

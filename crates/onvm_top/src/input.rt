@@ -1,0 +1,84 @@
+//! Captures read to their end.
+ghost use Rattle.std.specs.Prelude.{◌≡◌, ◌≢◌, ◌≤◌, ◌<◌, ◌+◌, ◌^◌, ℕ, List, Some, IfOk, OnOk, Ok, Err, length, true, false};
+ghost use Rattle.onvm_host.specs.Causes.{Rose};
+ghost use Rattle.pcap_in.specs.Classic.{IsCapture};
+ghost use Rattle.onvm_top.specs.Limits.{IsWithinLimits};
+ghost use Rattle.onvm_top.specs.Fed.{EndsEarly, Feeds, HasRead};
+
+use crate::received::Received;
+use onvm_base::Frames;
+use onvm_host::Source;
+use pcap_in::{PcapFault, Pull, Reader};
+use std::alloc::Global;
+
+// How much of a capture is read at once.
+const PIECE_LEN: usize = 65_536;
+
+/// Why a capture was not read to its end.
+#[derive(Clone, Copy, Debug, PartialEq, Eq)]
+pub enum CaptureFault {
+    Read,
+    Broken(PcapFault),
+    TooMany,
+    Memory,
+}
+
+/// The frames of a capture.
+pub fn read_frames<S: Source>(alloc: Global, source: &mut S) -> Result<Frames, CaptureFault>
+    ensures whole { IfOk result (λ frames. (text : List ℕ) → S.left source.old ≡ Some text → IsCapture text frames) }
+    ensures within { IfOk result (λ frames. IsWithinLimits frames) }
+    ensures read { result ≡ Err CaptureFault.Read → Rose (S.faults source.old) (S.faults source.new) }
+    ensures later { S.faults source.old ≤ S.faults source.new }
+{
+    let mut reader = Reader::make(alloc);
+    let mut received = Received::make(alloc);
+    let mut piece = [0; PIECE_LEN];
+    'pieces: loop {
+        feed_piece(source, &mut reader, &mut piece)?;
+        if pull_frames(alloc, &mut reader, &mut received)? {
+            return Ok(received.into_frames());
+        }
+    }
+}
+
+// Feeds the reader the next bytes of the source, or says that there are none.
+fn feed_piece<S: Source>(source: &mut S, reader: &mut Reader, piece: &mut [u8]) -> Result<(), CaptureFault>
+    requires room { 0 < length piece.old }
+    requires open { reader.old.finished ≡ false }
+    requires fits { reader.old.place + length reader.old.rest + length piece.old < 2 ^ 64 }
+    ensures ok { OnOk result (Feeds (S.left source.old) (S.left source.new) reader.old reader.new) }
+    ensures read { result ≡ Err CaptureFault.Read → Rose (S.faults source.old) (S.faults source.new) }
+    ensures later { S.faults source.old ≤ S.faults source.new }
+{
+    let Ok(count) = source.take(piece) else {
+        return Err(CaptureFault::Read);
+    };
+    if count == 0 {
+        reader.finish();
+        return Ok(());
+    }
+    match reader.feed(&piece[..count]) {
+        Ok(()) => Ok(()),
+        Err(_) => Err(CaptureFault::Memory),
+    }
+}
+
+// Pulls the frames that are whole, and says whether the capture has ended.
+fn pull_frames(alloc: Global, reader: &mut Reader, received: &mut Received) -> Result<bool, CaptureFault>
+    requires within { IsWithinLimits received.old }
+    ensures within { IfOk result (λ _. IsWithinLimits received.new) }
+    ensures read { IfOk result (λ _. (fed : List ℕ) → HasRead fed received.old reader.old → HasRead fed received.new reader.new) }
+    ensures finished { IfOk result (λ ended. (reader.old.finished ≡ ended) × (reader.new.finished ≡ ended)) }
+    ensures ended { result ≡ Ok true → (fed : List ℕ) → HasRead fed received.old reader.old → IsCapture fed received.new }
+    ensures more { result ≡ Ok false → EndsEarly reader.new }
+    ensures only { result ≢ Err CaptureFault.Read }
+{
+    'pulls: loop {
+        match reader.next(alloc).map_err(|_| CaptureFault::Memory)? {
+            Pull::Frame(frame) => received.add(frame)?,
+            Pull::More => return Ok(false),
+            Pull::End => return Ok(true),
+            Pull::Bad(fault) => return Err(CaptureFault::Broken(fault)),
+        }
+    }
+}

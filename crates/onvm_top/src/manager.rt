@@ -1,0 +1,133 @@
+//! A whole run.
+ghost use Rattle.std.specs.Prelude.{◌≡◌, ◌≤◌, ℕ, List, map, string_bytes, Ok, Err, Some, OnOk, IfOk};
+ghost use Rattle.onvm_host.specs.Causes.{Rose, SameNames};
+ghost use Rattle.onvm_host.specs.Files.{Entries, file_of};
+ghost use Rattle.pcap_in.specs.Classic.{IsCapture};
+ghost use Rattle.pcap_in.specs.Emitted.{emit};
+ghost use Rattle.onvm_top.specs.Command.{MayReplay};
+ghost use Rattle.onvm_top.specs.Limits.{IsWithinLimits};
+ghost use Rattle.onvm_top.specs.Replay.{IsDone, OnlyChanges};
+
+use crate::chain::{FORWARDING_CHAIN, is_forwarding_chain};
+use crate::command::command_of;
+use crate::fault::Fault;
+use crate::input::{CaptureFault, read_frames};
+use crate::output::{put_capture, say_all};
+use onvm_base::{Frames, PortId, Status};
+use onvm_host::{Clock, Gate, Host, HostFault};
+use std::alloc::Global;
+
+// The one port.
+const PORT: PortId = PortId(0);
+
+/// Replays a capture through a chain: `words` are the names of the chain file, of the output and
+/// of the capture. What stops it is said in one line. Neither clock nor gate is used yet.
+pub fn run<R: AllocGlobal, H: Host, C: Clock, G: Gate>(
+    rt: &R,
+    words: &[String],
+    host: &mut H,
+    _clock: &C,
+    _gate: &G,
+) -> Status
+    requires names { MayReplay (H.may_open host.old) (H.may_create host.old) (map string_bytes words.now) }
+    ensures done { result ≡ Status.Done
+        → IsDone (map string_bytes words.now) (H.files host.old) (H.files host.new) }
+{
+    match replay(rt.alloc(), words, host) {
+        Ok(()) => Status::Done,
+        Err(fault) => {
+            let _ = say_all(host, fault.line().as_bytes());
+            fault.status()
+        }
+    }
+}
+
+// The run without its fault line.
+fn replay<H: Host>(alloc: Global, words: &[String], host: &mut H) -> Result<(), Fault>
+    requires names { MayReplay (H.may_open host.old) (H.may_create host.old) (map string_bytes words.now) }
+    ensures done { OnOk result (IsDone (map string_bytes words.now) (H.files host.old) (H.files host.new)) }
+{
+    let Some(command) = command_of(words) else {
+        return Err(Fault::Words);
+    };
+    read_chain(host, command.chain)?;
+    let frames = read_capture(alloc, host, command.capture)?;
+    write_output(host, command.out, &frames)?;
+    Ok(())
+}
+
+// Reads the chain file, and refuses another than the one that forwards.
+fn read_chain<H: Host>(host: &mut H, name: &str) -> Result<(), Fault>
+    requires { H.may_open host.old name.now }
+    ensures ok { OnOk result ((files : Entries) → H.files host.old ≡ Some files
+        → file_of name.now files ≡ Some FORWARDING_CHAIN) }
+    ensures read { result ≡ Err Fault.ReadChain → Rose (H.faults host.old) (H.faults host.new) }
+    ensures later { H.faults host.old ≤ H.faults host.new }
+    ensures files { H.files host.new ≡ H.files host.old }
+    ensures said { H.said host.new ≡ H.said host.old }
+    ensures names { SameNames (H.may_open host.old) (H.may_create host.old) (H.may_open host.new) (H.may_create host.new) }
+{
+    let mut input = match host.open_input(name) {
+        Ok(input) => input,
+        Err(HostFault::Failed) => return Err(Fault::ReadChain),
+        Err(HostFault::Memory) => return Err(Fault::Memory),
+    };
+    let same = is_forwarding_chain(&mut input);
+    host.shut(input);
+    match same {
+        Ok(true) => Ok(()),
+        Ok(false) => Err(Fault::Plan),
+        Err(_) => Err(Fault::ReadChain),
+    }
+}
+
+// Reads the capture to its end.
+fn read_capture<H: Host>(alloc: Global, host: &mut H, name: &str) -> Result<Frames, Fault>
+    requires { H.may_open host.old name.now }
+    ensures ok { IfOk result (λ frames. (files : Entries) → H.files host.old ≡ Some files
+        → (text : List ℕ) × (file_of name.now files ≡ Some text) × IsCapture text frames) }
+    ensures within { IfOk result (λ frames. IsWithinLimits frames) }
+    ensures read { result ≡ Err (Fault.ReadCapture PORT) → Rose (H.faults host.old) (H.faults host.new) }
+    ensures later { H.faults host.old ≤ H.faults host.new }
+    ensures files { H.files host.new ≡ H.files host.old }
+    ensures said { H.said host.new ≡ H.said host.old }
+    ensures names { SameNames (H.may_open host.old) (H.may_create host.old) (H.may_open host.new) (H.may_create host.new) }
+{
+    let mut input = match host.open_input(name) {
+        Ok(input) => input,
+        Err(HostFault::Failed) => return Err(Fault::ReadCapture(PORT)),
+        Err(HostFault::Memory) => return Err(Fault::Memory),
+    };
+    let frames = read_frames(alloc, &mut input);
+    host.shut(input);
+    match frames {
+        Ok(frames) => Ok(frames),
+        Err(CaptureFault::Read) => Err(Fault::ReadCapture(PORT)),
+        Err(CaptureFault::Broken(fault)) => Err(Fault::Broken(PORT, fault)),
+        Err(CaptureFault::TooMany) => Err(Fault::TooMany(PORT)),
+        Err(CaptureFault::Memory) => Err(Fault::Memory),
+    }
+}
+
+// Creates the output, puts the capture text of the frames, and keeps it.
+fn write_output<H: Host>(host: &mut H, name: &str, frames: &Frames) -> Result<(), Fault>
+    requires { H.may_create host.old name.now }
+    ensures ok { OnOk result ((files : Entries) → H.files host.old ≡ Some files
+        → (now : Entries) × (H.files host.new ≡ Some now) × OnlyChanges name.now (emit frames.now) files now) }
+    ensures write { result ≡ Err Fault.Write → Rose (H.faults host.old) (H.faults host.new) }
+    ensures memory { result ≡ Err Fault.Memory → H.files host.new ≡ H.files host.old }
+    ensures later { H.faults host.old ≤ H.faults host.new }
+    ensures said { H.said host.new ≡ H.said host.old }
+{
+    let mut output = match host.create_output(name) {
+        Ok(output) => output,
+        Err(HostFault::Failed) => return Err(Fault::Write),
+        Err(HostFault::Memory) => return Err(Fault::Memory),
+    };
+    let put = put_capture(&mut output, frames);
+    let kept = host.keep(output);
+    match (put, kept) {
+        (Ok(()), Ok(())) => Ok(()),
+        _ => Err(Fault::Write),
+    }
+}

@@ -1,0 +1,6 @@
+pub mod Faults
+pub mod Grammar
+pub mod Judging
+pub mod OneAnswer
+pub mod Pulling
+pub mod Read
