@@ -13,4 +13,5 @@ HaveDistinctNames files = AllPairs (λ file later. file.name ≢ later.name) fil
 
 -- the numbers of the calls that fail of the first file of a name
 abbrev pub fails_of : List ℕ → List MemFile → List ℕ
-fails_of name files = unwrap_or (option_map (λ file. file.fail) (find (λ file. bytes_eq file.name name) files)) []
+fails_of name files =
+    unwrap_or (option_map (λ file. file.fail) (find (λ file. bytes_eq file.name name) files)) []

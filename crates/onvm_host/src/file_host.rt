@@ -1,6 +1,8 @@
 //! A host over real files and standard output. It tells nothing of content.
-ghost use Rattle.std.specs.Prelude.{◌≡◌, ◌≤◌, ◌<◌, ⊤, None, IfOk, length};
-ghost use Rattle.std.specs.Io.{WritesAtMost};
+ghost use Rattle.std.specs.Prelude.{◌≡◌, ◌≤◌, ◌<◌, ⊤, ℕ, List, Option, None, Ok, IfOk, length, option_and_then};
+ghost use Rattle.std.specs.Io.{ReadsAtMost, WritesAtMost};
+ghost use Rattle.std.specs.Io.KnownBytes.{ReadConsumes, WriteAppends};
+ghost use Rattle.std.specs.IoError.{error_kind};
 ghost use Rattle.onvm_host.specs.Causes.{HasCause, Rose};
 
 use crate::fault::{HostFault, raise};
@@ -27,8 +29,14 @@ impl<F: Read + Drop> Source for FileInput<F> {
 
     ghost faults = { λ input. input.faults };
 
+    // The bytes are those of the file, which a real one does not tell.
     #[inline]
-    fn take(&mut self, into: &mut [u8]) -> Result<usize, Failed> {
+    fn take(&mut self, into: &mut [u8]) -> Result<usize, Failed>
+        ensures bound { ReadsAtMost result into.new }
+        ensures bytes { ReadConsumes (F.remaining self.old.file) (F.remaining self.new.file)
+            result into.new }
+        ensures cause { HasCause self.old.faults self.new.faults result }
+    {
         match self.file.read(into) {
             Ok(count) => Ok(count),
             Err(_) => Err(raise(&mut self.faults)),
@@ -43,6 +51,8 @@ struct Target<F> {
 }
 
 impl<F: Write + Drop> Write for Target<F> {
+    ghost contents = { λ target. option_and_then F.contents target.file };
+
     fn write(&mut self, piece: &[u8]) -> io::Result<usize> {
         match &mut self.file {
             Some(file) => file.write(piece),
@@ -73,8 +83,17 @@ impl<F: Write + Drop> Sink for FileOutput<F> {
 
     ghost faults = { λ output. output.faults };
 
+    // The bytes go to the file, which a real one does not tell.
     #[inline]
-    fn put(&mut self, piece: &[u8]) -> Result<usize, Failed> {
+    fn put(&mut self, piece: &[u8]) -> Result<usize, Failed>
+        ensures bound { WritesAtMost result piece.now }
+        ensures some { IfOk result (λ n. 0 < length piece.now → 0 < n) }
+        ensures bytes { WriteAppends
+            (⟦<BufWriter<Target<F>> as Write>⟧.contents self.old.writer)
+            (⟦<BufWriter<Target<F>> as Write>⟧.contents self.new.writer) result piece.now }
+        ensures named { self.new.name ≡ self.old.name }
+        ensures cause { HasCause self.old.faults self.new.faults result }
+    {
         let answer = self.writer.write(piece);
         count_of(answer, piece, &mut self.faults)
     }
@@ -88,7 +107,9 @@ pub struct FileHost<R> {
 }
 
 impl<R> FileHost<R> {
-    pub fn make(rt: R) -> FileHost<R> {
+    pub fn make(rt: R) -> FileHost<R>
+        ensures { result.faults ≡ 0 }
+    {
         FileHost { rt, faults: 0 }
     }
 
@@ -96,6 +117,7 @@ impl<R> FileHost<R> {
     fn fault_of(&mut self, error: io::Error) -> HostFault
         ensures later { self.old.faults ≤ self.new.faults }
         ensures failed { result ≡ HostFault.Failed → Rose self.old.faults self.new.faults }
+        ensures memory { result ≡ HostFault.Memory → error_kind error ≡ ErrorKind.OutOfMemory }
     {
         match error.kind() {
             ErrorKind::OutOfMemory => HostFault::Memory,
@@ -173,11 +195,14 @@ where
 
 // How much of a piece was taken. That nothing was, of a piece that is not empty, is a fault.
 #[inline]
+#[tactic(auto, using(crate::proofs::Bytes::nothing_appended))]
 fn count_of(answer: io::Result<usize>, piece: &[u8], faults: &mut u64) -> Result<usize, Failed>
     requires { WritesAtMost answer piece.now }
     ensures bound { WritesAtMost result piece.now }
     ensures some { IfOk result (λ n. 0 < length piece.now → 0 < n) }
     ensures answered { IfOk answer (λ n. 0 < n → result ≡ Ok n) }
+    ensures bytes { (old new : Option (List ℕ)) → WriteAppends old new answer piece.now
+        → WriteAppends old new result piece.now }
     ensures cause { HasCause faults.old faults.new result }
 {
     match answer {

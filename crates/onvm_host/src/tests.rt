@@ -97,7 +97,7 @@ fn the_hosts_calls_of_the_listed_numbers_fail(rt: HostRuntime) -> Result<(), Fai
     host.shut(input);
     assert_eq!(rt; host.open_input("plan").err(), Some(HostFault::Failed));
     let mut output = host.create_output("plan")?;
-    assert_eq!(rt; host.file("plan"), Some([].as_slice()));
+    assert!(rt; host.file("plan").is_some_and(|bytes| bytes.is_empty()));
     output.put(&[3])?;
     assert_eq!(rt; host.keep(output), Err(Failed));
     assert_eq!(rt; host.file("plan"), Some([3].as_slice()));

@@ -37,7 +37,8 @@ impl MemHost {
         space: u64,
     ) -> Result<MemHost, NoMemory>
         requires { HaveDistinctNames files }
-        ensures files { IfOk result (λ host. ⟦<MemHost as Host>⟧.files host ≡ Some (given_entries files)) }
+        ensures files { IfOk result (λ host.
+            ⟦<MemHost as Host>⟧.files host ≡ Some (given_entries files)) }
         ensures said { IfOk result (λ host. ⟦<MemHost as Host>⟧.said host ≡ Some []) }
         ensures faults { IfOk result (λ host. ⟦<MemHost as Host>⟧.faults host ≡ 0) }
     {
@@ -86,8 +87,10 @@ impl MemHost {
         ensures named { IfOk result (λ output. output.name ≡ name.now) }
         ensures empty { IfOk result (λ output. output.bytes.bytes.items ≡ []) }
         ensures space { IfOk result (λ output. output.bytes.space ≡ self.now.space) }
-        ensures fails { IfOk result (λ output. output.tally.fail ≡ fails_of name.now self.now.given) }
-        ensures fresh { IfOk result (λ output. (output.tally.calls ≡ 0) × (output.tally.faults ≡ 0)) }
+        ensures fails { IfOk result (λ output.
+            output.tally.fail ≡ fails_of name.now self.now.given) }
+        ensures first { IfOk result (λ output. output.tally.calls ≡ 0) }
+        ensures fresh { IfOk result (λ output. output.tally.faults ≡ 0) }
     {
         Ok(MemOutput {
             name: copy_of(self.alloc, name)?,

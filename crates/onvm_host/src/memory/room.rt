@@ -53,13 +53,16 @@ impl Room {
 
     /// Appends what fits of a piece, as a call of the tally. That none fits is a fault.
     pub(super) fn place(&mut self, piece: &[u8], tally: &mut Tally) -> Result<usize, Failed>
-        ensures count { IfOk result (λ n. n ≡ min (length piece.now) (self.old.space - vec_len self.old.bytes)) }
+        ensures count { IfOk result (λ n.
+            n ≡ min (length piece.now) (self.old.space - vec_len self.old.bytes)) }
         ensures some { IfOk result (λ n. 0 < length piece.now → 0 < n) }
-        ensures bytes { WriteAppends (Some self.old.bytes.items) (Some self.new.bytes.items) result piece.now }
+        ensures bytes { WriteAppends (Some self.old.bytes.items) (Some self.new.bytes.items)
+            result piece.now }
         ensures space { self.new.space ≡ self.old.space }
         ensures fail { tally.new.fail ≡ tally.old.fail }
         ensures calls { tally.new.calls ≡ min (tally.old.calls + 1) (2 ^ 64 - 1) }
-        ensures listed { IsTrue (list_any (λ number. number == tally.new.calls) tally.old.fail) → IsErr result }
+        ensures listed { IsTrue (list_any (λ number. number == tally.new.calls) tally.old.fail)
+            → IsErr result }
         ensures cause { HasCause tally.old.faults tally.new.faults result }
     {
         tally.call()?;

@@ -30,7 +30,8 @@ impl Tally {
     pub(super) fn call(&mut self) -> Result<(), Failed>
         ensures fail { self.new.fail ≡ self.old.fail }
         ensures calls { self.new.calls ≡ min (self.old.calls + 1) (2 ^ 64 - 1) }
-        ensures listed { is_err result ≡ list_any (λ number. number == self.new.calls) self.old.fail }
+        ensures listed { is_err result
+            ≡ list_any (λ number. number == self.new.calls) self.old.fail }
         ensures faults { OnOk result (self.new.faults ≡ self.old.faults) }
         ensures cause { HasCause self.old.faults self.new.faults result }
     {
@@ -43,7 +44,8 @@ impl Tally {
 
     /// Counts a fault.
     pub(super) fn fault(&mut self) -> Failed
-        ensures counted { self.new ≡ record self.old { faults = min (self.old.faults + 1) (2 ^ 64 - 1) } }
+        ensures counted { self.new
+            ≡ record self.old { faults = min (self.old.faults + 1) (2 ^ 64 - 1) } }
         ensures later { self.old.faults ≤ self.new.faults }
     {
         raise(&mut self.faults)
