@@ -3,7 +3,7 @@ ghost use Rattle.std.specs.Prelude.{◌≡◌, ◌++◌, OnOk};
 ghost use Rattle.std.specs.Io.KnownBytes.{Appends};
 ghost use Rattle.onvm_host.specs.Causes.{HasCause};
 ghost use Rattle.pcap_in.specs.Emitted.{emit, emitted_frame};
-ghost use Rattle.onvm_top.specs.Known.{AppendsFront};
+ghost use Rattle.onvm_top.specs.Known.{AppendsFront, SaysOnce};
 
 use onvm_base::{Failed, Frame, Frames};
 use onvm_host::{Host, Sink};
@@ -54,7 +54,7 @@ fn put_frame<K: Sink>(sink: &mut K, frame: &Frame) -> Result<(), Failed>
 /// Says the whole piece.
 pub fn say_all<H: Host>(host: &mut H, piece: &[u8]) -> Result<(), Failed>
     ensures ok { OnOk result (Appends (H.said host.old) (H.said host.new) piece.now) }
-    ensures front { AppendsFront (H.said host.old) (H.said host.new) piece.now }
+    ensures once { SaysOnce (H.said host.old) (H.said host.new) (H.faults host.old) (H.faults host.new) piece.now }
     ensures files { H.files host.new ≡ H.files host.old }
     ensures cause { HasCause (H.faults host.old) (H.faults host.new) result }
 {
