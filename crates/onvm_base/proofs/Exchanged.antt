@@ -31,13 +31,13 @@ replaced {X} s w b1 b2 b3 b4 from upto kept mid le within e1 e2 ek e3 em e4 =
     let rest : m ++ b ≡ drop from s = ap (λ t. m ++ t) (sym behind) ∙ take-append-drop (upto - from) (drop from s) in
     let whole : a ++ (m ++ b) ≡ s = ap (λ t. a ++ t) rest ∙ take-append-drop from s in
     let parts : s ++ w ≡ a ++ (m ++ (b ++ w)) =
-      ap (λ t. t ++ w) (sym whole) ∙ append_assoc a (m ++ b) w ∙ ap (λ t. a ++ t) (append_assoc m b w) in
+    ap (λ t. t ++ w) (sym whole) ∙ append_assoc a (m ++ b) w ∙ ap (λ t. a ++ t) (append_assoc m b w) in
     let first : b2 ≡ a ++ (b ++ w) ++ m =
-      e2 ∙ ap (λ t. exchanged t from upto) (e1 ∙ parts) ∙ exchanged-parts a m (b ++ w) from upto la lm le in
+    e2 ∙ ap (λ t. exchanged t from upto) (e1 ∙ parts) ∙ exchanged-parts a m (b ++ w) from upto la lm le in
     let size : length (a ++ (b ++ w)) ≡ kept =
-      omega (arith, ek, ap length first, length-append (a ++ (b ++ w)) m, lm) in
+    omega (arith, ek, ap length first, length-append (a ++ (b ++ w)) m, lm) in
     let cut : b3 ≡ a ++ (b ++ w) = e3 ∙ ap (take kept) first ∙ take_at (a ++ (b ++ w)) m kept size in
     let middle : length b ≡ mid - from =
-      omega (arith, em, ap length cut, length-append a (b ++ w), length-append b w, la) in
+    omega (arith, em, ap length cut, length-append a (b ++ w), length-append b w, la) in
     let over : from ≤ mid = omega (arith, em, ap length cut, length-append a (b ++ w), length-append b w, la) in
     e4 ∙ ap (λ t. exchanged t from mid) cut ∙ exchanged-parts a b w from mid la middle over

@@ -1,5 +1,5 @@
 //! Lists over a `Vec`, which contracts see as lists.
-ghost use Rattle.std.specs.Prelude.{◌≡◌, ◌<◌, [], ◌∷◌, ◌++◌, length, slice_get, option_copied, option_to_list, IsTrue, ◌↔◌, OnOk, OnErr};
+ghost use Rattle.std.specs.Prelude.{◌≡◌, ◌<◌, [], ◌∷◌, ◌++◌, length, slice_get, option_copied, option_to_list, IsTrue, ◌↔◌, IfNone, OnOk, OnErr};
 
 use crate::refusal::NoMemory;
 use std::alloc::Global;
@@ -72,7 +72,8 @@ impl<T> ListOf<T> {
 
     /// Takes the last item out. It takes no memory.
     pub fn pop(&mut self) -> Option<T>
-        ensures { self.old ≡ self.new ++ option_to_list result }
+        ensures taken { self.old ≡ self.new ++ option_to_list result }
+        ensures none { IfNone result (length self.old ≡ 0) }
     {
         self.items.pop()
     }

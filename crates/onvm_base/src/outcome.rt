@@ -45,7 +45,9 @@ pub enum Outcome {
         function: FnId,
     },
     /// The ring that it was to go on to was full.
-    RingFull { ring: RingId },
+    RingFull {
+        ring: RingId,
+    },
     /// No buffer of its port was free.
     PoolEmpty,
 }
