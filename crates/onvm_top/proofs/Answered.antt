@@ -78,7 +78,7 @@ chain_or_other : (words : List (List ℕ)) (a b : Command) (files : Entries) →
     → IsChain a.chain files → IsOtherChain b.chain files → ⊥
 chain_or_other words a b files is other chain (bytes, file, differs) =
     let same : Some bytes ≡ file_of a.chain files =
-      sym file ∙ ap (λ (n : List ℕ). file_of n files) (same_chain words b a other is) in
+    sym file ∙ ap (λ (n : List ℕ). file_of n files) (same_chain words b a other is) in
     let there = same ∙ chain in
     differs (cc)
 

@@ -64,7 +64,8 @@ first_pulled fed header rest frame new fed_is is given =
         is_capture = (header, bytes, refl, is, one);
         fed_is = fed_is ∙ ap (λ t. header ++ t) given.1 ∙ sym (append_assoc header bytes new.rest);
         place = given.3 ∙ sym size;
-      })
+      },
+    )
 
 -- the next frame is behind those before it
 next_pulled : (fed : List ℕ) (frames : List Frame) (frame : Frame) (old new : Reading) → 0 < old.place → IsBehind fed frames old
@@ -79,7 +80,8 @@ next_pulled fed frames frame old new some behind given =
         is_capture = IsCapture-push behind.used bytes frames frame behind.is_capture given.2;
         fed_is = behind.fed_is ∙ ap (λ t. behind.used ++ t) given.1 ∙ sym (append_assoc behind.used bytes new.rest);
         place = given.3 ∙ ap (λ n. n + length bytes) behind.place ∙ sym size;
-      })
+      },
+    )
 
 pulled_at : (fed : List ℕ) (frames : List Frame) (frame : Frame) (old new : Reading) → HasRead fed frames old
     → AtRecord old (GivesRecord frame new) → HasRead fed (frames ++ frame ∷ []) new
@@ -159,7 +161,8 @@ HasRead-fed fed piece frames old new (inr behind) place rest =
         is_capture = behind.1.is_capture;
         fed_is = ap (λ t. t ++ piece) behind.1.fed_is ∙ append_assoc behind.1.used old.rest piece ∙ ap (λ t. behind.1.used ++ t) (sym rest);
         place = place ∙ behind.1.place;
-      })
+      },
+    )
 
 -- what was fed is what the frames used and what is left
 pub HasRead-length : (fed : List ℕ) (frames : List Frame) (reading : Reading) → HasRead fed frames reading
@@ -183,8 +186,9 @@ torn_there at rest more finished (Fraction place) last torn = absurd torn
 torn_header : (old : Reading) (more : List ℕ) (fault : PcapFault) → (old.finished ≡ true → more ≡ []) → IsTornHeader old fault
     → (length (old.rest ++ more) < 24) × (fault ≡ Torn 0)
 torn_header old more (Torn place) last torn = (
-    omega (arith, length-append old.rest more, ap (length {A = ℕ}) (last torn.0), torn.2.1),
-    ap (λ n. Torn n) torn.1)
+  omega (arith, length-append old.rest more, ap (length {A = ℕ}) (last torn.0), torn.2.1),
+  ap (λ n. Torn n) torn.1,
+)
 torn_header old more Magic last torn = absurd torn
 torn_header old more Version last torn = absurd torn
 torn_header old more Link last torn = absurd torn
@@ -197,15 +201,25 @@ fault_at_start : (more : List ℕ) (old : Reading) (fault : PcapFault) → old.p
 fault_at_start more old fault start last (inl broken) =
     inr (inl (refl, omega (arith, length-append old.rest more, broken.1), BreaksHeader-append old.rest more fault broken.1 broken.2))
 fault_at_start more old fault start last (inr (inl (inl at))) =
-    inr (inr (at.1, at.2 ++ more, ap (λ t. t ++ more) at.3 ∙ append_assoc at.1 at.2 more, at.4,
-      inl (omega (arith, length-append at.2 more, at.5.0), BreaksRecord-append 24 at.2 more fault at.5.0 at.5.1)))
+    inr (inr (
+      at.1,
+      at.2 ++ more,
+      ap (λ t. t ++ more) at.3 ∙ append_assoc at.1 at.2 more,
+      at.4,
+      inl (omega (arith, length-append at.2 more, at.5.0), BreaksRecord-append 24 at.2 more fault at.5.0 at.5.1),
+    ))
 fault_at_start more old fault start last (inr (inl (inr at))) = absurd (omega (arith, start, at.0))
 fault_at_start more old fault start last (inr (inr (inl torn))) =
     let both = torn_header old more fault last torn in
     inl (refl, both.0, both.1)
 fault_at_start more old fault start last (inr (inr (inr (inl at)))) =
-    inr (inr (at.1, at.2 ++ more, ap (λ t. t ++ more) at.3 ∙ append_assoc at.1 at.2 more, at.4,
-      inr (torn_there 24 at.2 more old.finished fault last at.5)))
+    inr (inr (
+      at.1,
+      at.2 ++ more,
+      ap (λ t. t ++ more) at.3 ∙ append_assoc at.1 at.2 more,
+      at.4,
+      inr (torn_there 24 at.2 more old.finished fault last at.5),
+    ))
 fault_at_start more old fault start last (inr (inr (inr (inr at)))) = absurd (omega (arith, start, at.0))
 
 -- behind the frames, a fault is that of the next record
@@ -235,25 +249,35 @@ IsCaptureUpTo-met fed more frames old fault (inr behind) last faulty =
     let is = behind.1.is_capture in
     let records : List ℕ = is.1 in
     let place : old.place ≡ 24 + length records =
-      behind.1.place ∙ ap length is.2 ∙ length-append is.0 records ∙ ap (λ n. n + length records) is.3.size in
+    behind.1.place ∙ ap length is.2 ∙ length-append is.0 records ∙ ap (λ n. n + length records) is.3.size in
     let At : ℕ → Type 0 = λ n. AreRecordsUpTo n (old.rest ++ more) [] fault in
     let text : fed ++ more ≡ is.0 ++ (records ++ (old.rest ++ more)) =
-      ap (λ t. t ++ more) behind.1.fed_is ∙ append_assoc behind.1.used old.rest more
-      ∙ ap (λ t. t ++ (old.rest ++ more)) is.2 ∙ append_assoc is.0 records (old.rest ++ more) in
-    inr (inr (is.0, records ++ (old.rest ++ more), text, is.3,
+    ap (λ t. t ++ more) behind.1.fed_is ∙ append_assoc behind.1.used old.rest more
+    ∙ ap (λ t. t ++ (old.rest ++ more)) is.2 ∙ append_assoc is.0 records (old.rest ++ more) in
+    inr (inr (
+      is.0,
+      records ++ (old.rest ++ more),
+      text,
+      is.3,
       AreRecordsUpTo-behind 24 records (old.rest ++ more) frames fault is.4
-        (subst At place (record_fault more old fault behind.0 last faulty))))
+          (subst At place (record_fault more old fault behind.0 last faulty)),
+    ))
 
 passes_at : (fed more : List ℕ) (frames : List Frame) (reading : Reading) → 0 < length frames → HasRead fed frames reading
     → ¬ (IsWithinLimits frames) → PassesLimit (fed ++ more)
 passes_at fed more frames reading some (inl start) large = absurd (omega (arith, some, ap (length {A = Frame}) start.1))
-passes_at fed more frames reading some (inr behind) large =
-    (behind.1.used, reading.rest ++ more, frames, ap (λ t. t ++ more) behind.1.fed_is ∙ append_assoc behind.1.used reading.rest more,
-      behind.1.is_capture, large)
+passes_at fed more frames reading some (inr behind) large = (
+  behind.1.used,
+  reading.rest ++ more,
+  frames,
+  ap (λ t. t ++ more) behind.1.fed_is ∙ append_assoc behind.1.used reading.rest more,
+  behind.1.is_capture,
+  large,
+)
 
 -- a frame that passes a limit makes the text pass it
 pub PassesLimit-pulled : (fed more : List ℕ) (frames : List Frame) (frame : Frame) (old new : Reading) → HasRead fed frames old
     → Pulls old (pull.Frame frame) new → ¬ (IsWithinLimits (frames ++ frame ∷ [])) → PassesLimit (fed ++ more)
 PassesLimit-pulled fed more frames frame old new read pulls large =
     passes_at fed more (frames ++ frame ∷ []) new (omega (arith, length-append frames (frame ∷ [])))
-      (HasRead-pulled fed frames frame old new read pulls) large
+    (HasRead-pulled fed frames frame old new read pulls) large

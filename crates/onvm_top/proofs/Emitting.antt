@@ -14,10 +14,10 @@ pub Appends-flat_map_more : {X : Type 0} (a b c : Option (List ℕ)) (head : Lis
 Appends-flat_map_more {X} a b c head piece items i x within is before next =
     let P : List ℕ → Type 0 = Appends a c in
     let more : take (i + 1) items ≡ take i items ++ x ∷ [] =
-      take_more items i x within ∙ ap (λ (y : X). take i items ++ y ∷ []) (sym is) in
+    take_more items i x within ∙ ap (λ (y : X). take i items ++ y ∷ []) (sym is) in
     subst P
-      (flat_map_more piece head (take i items) x ∙ ap (λ t. head ++ flat_map piece t) (sym more))
-      (Appends-append a b c (head ++ flat_map piece (take i items)) (piece x) before next)
+    (flat_map_more piece head (take i items) x ∙ ap (λ t. head ++ flat_map piece t) (sym more))
+    (Appends-append a b c (head ++ flat_map piece (take i items)) (piece x) before next)
 
 -- at the end, the pieces of all items
 pub Appends-flat_map_all : {X : Type 0} (a b : Option (List ℕ)) (head : List ℕ) (piece : X → List ℕ) (items all : List X) (i : ℕ)
@@ -35,11 +35,11 @@ front-flat_map {X} a b c head piece items all i x within is same before next =
     let behind : List X = drop (i + 1) items in
     let rest : drop i items ≡ x ∷ behind = drop_more items i x within ∙ ap (λ (y : X). y ∷ behind) (sym is) in
     let parts : flat_map piece items ≡ flat_map piece (take i items) ++ (piece x ++ flat_map piece behind) =
-      ap (flat_map piece) (sym (take-append-drop i items)) ∙ flat_map-append piece (take i items) (drop i items)
-      ∙ ap (λ t. flat_map piece (take i items) ++ flat_map piece t) rest in
+    ap (flat_map piece) (sym (take-append-drop i items)) ∙ flat_map-append piece (take i items) (drop i items)
+    ∙ ap (λ t. flat_map piece (take i items) ++ flat_map piece t) rest in
     let whole : (head ++ flat_map piece (take i items)) ++ (piece x ++ flat_map piece behind) ≡ head ++ flat_map piece all =
-      append_assoc head (flat_map piece (take i items)) (piece x ++ flat_map piece behind)
-      ∙ ap (λ t. head ++ t) (sym parts) ∙ ap (λ (t : List X). head ++ flat_map piece t) same in
+    append_assoc head (flat_map piece (take i items)) (piece x ++ flat_map piece behind)
+    ∙ ap (λ t. head ++ t) (sym parts) ∙ ap (λ (t : List X). head ++ flat_map piece t) same in
     subst P whole
-      (front-second a b c (head ++ flat_map piece (take i items)) (piece x ++ flat_map piece behind) before
-        (front-first b c (piece x) (flat_map piece behind) next))
+    (front-second a b c (head ++ flat_map piece (take i items)) (piece x ++ flat_map piece behind) before
+    (front-first b c (piece x) (flat_map piece behind) next))

@@ -79,7 +79,7 @@ pub same_as_front : (a b : Option (List ℕ)) (bytes room text : List ℕ) (coun
     → (take count room ≡ text → bytes ≡ text) × (bytes ≡ text → take count room ≡ text)
 same_as_front a b bytes room text count told taken within short small =
     same_front a b bytes (take count room) text count (length room) told taken (length-take-le count room within) short small
-      (cases_lt count (length room))
+    (cases_lt count (length room))
 
 -- what was left behind what was consumed
 pub Consumes-rest : (a b : Option (List ℕ)) (text x : List ℕ) → a ≡ Some text → Consumes a b x

@@ -7,7 +7,8 @@ use onvm_base::Failed;
 use onvm_host::Source;
 
 /// One chain of one function, which forwards, and then out of port 0.
-pub const FORWARDING_CHAIN: [u8; 155] = *b"{\"version\":1,\"ports\":1,\"functions\":[{\"name\":\"f\",\"service\":1,\"core\":0,\"kind\":\"forward\"}],\"chains\":[{\"name\":\"a\",\"steps\":[{\"to\":1},{\"out\":0}]}],\"default\":\"a\"}";
+pub const FORWARDING_CHAIN: [u8; 155] =
+    *b"{\"version\":1,\"ports\":1,\"functions\":[{\"name\":\"f\",\"service\":1,\"core\":0,\"kind\":\"forward\"}],\"chains\":[{\"name\":\"a\",\"steps\":[{\"to\":1},{\"out\":0}]}],\"default\":\"a\"}";
 
 // One byte more than the file has, so that a longer one shows.
 const ROOM: usize = 156;

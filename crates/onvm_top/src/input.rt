@@ -50,7 +50,11 @@ pub fn read_frames<S: Source>(alloc: Global, source: &mut S) -> Result<Frames, C
 }
 
 // Feeds the reader the next bytes of the source, or says that there are none.
-fn feed_piece<S: Source>(source: &mut S, reader: &mut Reader, piece: &mut [u8]) -> Result<(), CaptureFault>
+fn feed_piece<S: Source>(
+    source: &mut S,
+    reader: &mut Reader,
+    piece: &mut [u8],
+) -> Result<(), CaptureFault>
     requires room { 0 < length piece.old }
     requires open { reader.old.finished ≡ false }
     requires fits { reader.old.place + length reader.old.rest + length piece.old < 2 ^ 64 }
@@ -73,7 +77,11 @@ fn feed_piece<S: Source>(source: &mut S, reader: &mut Reader, piece: &mut [u8]) 
 }
 
 // Pulls the frames that are whole, and says whether the capture has ended.
-fn pull_frames(alloc: Global, reader: &mut Reader, received: &mut Received) -> Result<bool, CaptureFault>
+fn pull_frames(
+    alloc: Global,
+    reader: &mut Reader,
+    received: &mut Received,
+) -> Result<bool, CaptureFault>
     requires within { IsWithinLimits received.old }
     ensures within { IfOk result (λ _. IsWithinLimits received.new) }
     ensures read { IfOk result (λ _. (fed : List ℕ) → HasRead fed received.old reader.old → HasRead fed received.new reader.new) }

@@ -12,5 +12,7 @@ mod input;
 mod manager;
 mod output;
 mod received;
+#[cfg(test)]
+mod tests;
 
 pub use manager::run;

@@ -8,8 +8,8 @@ loop-len-preserved g c = record {
   within = length-written c.loop-len.len c.in_ok-count.count c.loop-len.room c.take.new.into _ (omega arith) c.in_ok-count.ensures.bound.0;
   later = search rules;
   taken =
-    let P : List ℕ → Type 0 = Consumes (g.S.Source.left c.args.source.now) (g.S.Source.left c.take.new.self) in
-    subst P
+      let P : List ℕ → Type 0 = Consumes (g.S.Source.left c.args.source.now) (g.S.Source.left c.take.new.self) in
+      subst P
       (sym (take-written c.loop-len.len c.in_ok-count.count c.loop-len.room c.take.new.into _ (omega arith) c.in_ok-count.ensures.bound.0))
       (Consumes-append _ _ _ (take c.loop-len.len c.loop-len.room) (take c.in_ok-count.count c.take.new.into) c.loop-len.invariant.taken c.in_ok-count.ensures.bytes.0);
 }

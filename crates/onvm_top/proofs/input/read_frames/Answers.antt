@@ -72,7 +72,7 @@ returns-in_err-pull_frames-clause-broken g c =
     let rest = Consumes-rest _ _ text fed left all in
     let P : List ℕ → Type 0 = λ t. (frames : List Frame) × IsCaptureUpTo t frames told × IsWithinLimits frames in
     subst P (sym rest.2)
-      (c.pull_frames.ensures.broken told pulled fed rest.0 now (λ finished. IsAtEnd-left _ rest.0 rest.1 (feeds.at_end finished)))
+    (c.pull_frames.ensures.broken told pulled fed rest.0 now (λ finished. IsAtEnd-left _ rest.0 rest.1 (feeds.at_end finished)))
 
 pub returns-in_err-pull_frames-clause-too_many : goal.returns-in_err-pull_frames-clause-too_many
 returns-in_err-pull_frames-clause-too_many g c =

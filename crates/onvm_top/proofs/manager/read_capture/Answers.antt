@@ -5,14 +5,23 @@ use Rattle.onvm_top.proofs.manager.read_capture.Goals as goal
 pub returns-in-Err-Broken-clause-err : goal.returns-in-Err-Broken-clause-err
 returns-in-Err-Broken-clause-err g c =
     let broken : c.read_frames-frames.result ≡ Err (input.Broken c.in-Err-Broken.fault) = search rules in
-    inl (record { 0 = 0 }, c.in-Err-Broken.fault, refl, λ files told.
-      let opened = c.in-Ok.ensures.left files told in
-      let read = c.read_frames-frames.ensures.broken c.in-Err-Broken.fault broken opened.0 opened.2 in
-      record { text = opened.0; frames = read.0; file = opened.1; up_to = read.1; within = read.2 })
+    inl (
+      record { 0 = 0 },
+      c.in-Err-Broken.fault,
+      refl,
+      λ files told.
+          let opened = c.in-Ok.ensures.left files told in
+          let read = c.read_frames-frames.ensures.broken c.in-Err-Broken.fault broken opened.0 opened.2 in
+          record { text = opened.0; frames = read.0; file = opened.1; up_to = read.1; within = read.2 },
+    )
 
 pub returns-in-Err-TooMany-clause-err : goal.returns-in-Err-TooMany-clause-err
 returns-in-Err-TooMany-clause-err g c =
     let large : c.read_frames-frames.result ≡ Err input.TooMany = search rules in
-    inr (inl (record { 0 = 0 }, refl, λ files told.
-      let opened = c.in-Ok.ensures.left files told in
-      record { text = opened.0; file = opened.1; passes = c.read_frames-frames.ensures.too_many large opened.0 opened.2 }))
+    inr (inl (
+      record { 0 = 0 },
+      refl,
+      λ files told.
+          let opened = c.in-Ok.ensures.left files told in
+          record { text = opened.0; file = opened.1; passes = c.read_frames-frames.ensures.too_many large opened.0 opened.2 },
+    ))

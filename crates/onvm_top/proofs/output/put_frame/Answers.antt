@@ -12,7 +12,7 @@ returns-in_err-put_all-clause-front g c =
     let P : List ℕ → Type 0 = AppendsFront before after in
     let head_is = c.frame_head.ensures ∙ ap (λ t. emitted_head c.args.frame.now.stamp (length t)) c.bytes-bytes.ensures.same in
     front-first before after (emitted_head c.args.frame.now.stamp (length c.args.frame.now.packet)) c.args.frame.now.packet
-      (subst P head_is c.put_all.ensures.front)
+    (subst P head_is c.put_all.ensures.front)
 
 pub returns-in_err-put_all-2-clause-front : goal.returns-in_err-put_all-2-clause-front
 returns-in_err-put_all-2-clause-front g c =
@@ -23,8 +23,8 @@ returns-in_err-put_all-2-clause-front g c =
     let Body : List ℕ → Type 0 = AppendsFront middle after in
     let head_is = c.frame_head.ensures ∙ ap (λ t. emitted_head c.args.frame.now.stamp (length t)) c.bytes-bytes.ensures.same in
     front-second before middle after (emitted_head c.args.frame.now.stamp (length c.args.frame.now.packet)) c.args.frame.now.packet
-      (subst Head head_is c.in_ok-put_all.ensures.ok)
-      (subst Body c.bytes-bytes.ensures.same c.put_all-2.ensures.front)
+    (subst Head head_is c.in_ok-put_all.ensures.ok)
+    (subst Body c.bytes-bytes.ensures.same c.put_all-2.ensures.front)
 
 pub returns-clause-ok : goal.returns-clause-ok
 returns-clause-ok g c =
@@ -35,10 +35,10 @@ returns-clause-ok g c =
     let Body : List ℕ → Type 0 = Appends middle after in
     let head_is = c.frame_head.ensures ∙ ap (λ t. emitted_head c.args.frame.now.stamp (length t)) c.bytes-bytes.ensures.same in
     Appends-append before middle after (emitted_head c.args.frame.now.stamp (length c.args.frame.now.packet)) c.args.frame.now.packet
-      (subst Head head_is c.in_ok-put_all.ensures.ok)
-      (subst Body c.bytes-bytes.ensures.same c.in_ok-put_all-2.ensures.ok)
+    (subst Head head_is c.in_ok-put_all.ensures.ok)
+    (subst Body c.bytes-bytes.ensures.same c.in_ok-put_all-2.ensures.ok)
 
 pub returns-clause-front : goal.returns-clause-front
 returns-clause-front g c =
     front-whole (g.K.Sink.held c.args.sink.now) (g.K.Sink.held c.put_all-2.new.sink)
-      (emitted_head c.args.frame.now.stamp (length c.args.frame.now.packet) ++ c.args.frame.now.packet) (returns-clause-ok g c)
+    (emitted_head c.args.frame.now.stamp (length c.args.frame.now.packet) ++ c.args.frame.now.packet) (returns-clause-ok g c)
