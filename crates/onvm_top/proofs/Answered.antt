@@ -1,5 +1,5 @@
 -- What a status tells, by cases, and that no two statuses tell the same.
-use Rattle.std.proofs.Common.{◌≡◌, ◌≢◌, ◌∙◌, sym, ap, subst, refl, inl, inr, ◌⊎◌, ℕ, ◌+◌, ◌≤◌, List, [], ◌∷◌, ◌++◌, length, Option, Some, arith}
+use Rattle.std.proofs.Common.{◌≡◌, ◌≢◌, ◌∙◌, sym, ap, subst, refl, inl, inr, ◌⊎◌, ℕ, List, [], ◌∷◌, ◌++◌, length, Option, Some, arith}
 use Rattle.std.proofs.lemmas.List.{length-append}
 use Rattle.std.proofs.lemmas.List.Sums.{sum_by-append}
 use Rattle.onvm_base.specs.declared.frame.Frame.{Frame}
@@ -9,10 +9,9 @@ use Rattle.onvm_host.specs.Causes.{Rose}
 use Rattle.onvm_host.specs.Files.{Entries, file_of}
 use Rattle.pcap_in.specs.Classic.{IsCapture}
 use Rattle.pcap_in.proofs.Faults.{no_fault, capture_first}
-use Rattle.onvm_top.specs.Answers.{FailsToRead, FailsToWrite, HasBadCapture, HasOtherChain, IsBadCapture, IsChain, IsFaultyCapture, IsGoodCapture, IsLargeCapture, IsNoCommand, IsOtherChain, IsUnlessStopped}
+use Rattle.onvm_top.specs.Answers.{FailsToRead, FailsToWrite, HasBadCapture, HasOtherChain, IsBadCapture, IsChain, IsGoodCapture, IsNoCommand, IsOtherChain, IsUnlessStopped}
 use Rattle.onvm_top.specs.Command.{Command, IsCommand}
 use Rattle.onvm_top.specs.Fault.{status_of}
-use Rattle.onvm_top.specs.Known.{OnTold}
 use Rattle.onvm_top.specs.Limits.{bytes_of, IsWithinLimits, PassesLimit}
 use Rattle.onvm_top.specs.Replay.{IsDone, IsReplayed}
 use Rattle.onvm_top.specs.Stops.{IsStopped}

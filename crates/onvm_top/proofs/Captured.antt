@@ -1,5 +1,5 @@
 -- Captures that grow by a record, and the readers behind them.
-use Rattle.std.proofs.Common.{◌≡◌, ◌∙◌, sym, ap, subst, refl, ◌⊎◌, inl, inr, ℕ, Bool, true, ◌+◌, ◌*◌, ◌<◌, ◌≤◌, List, [], ◌∷◌, ◌++◌, length, append_assoc, arith, rules, sum_by}
+use Rattle.std.proofs.Common.{◌≡◌, ◌∙◌, sym, ap, subst, refl, ◌⊎◌, inl, inr, ℕ, Bool, true, ◌+◌, ◌*◌, ◌<◌, List, [], ◌∷◌, ◌++◌, length, append_assoc, arith}
 use Rattle.std.proofs.lemmas.List.{append-nil, length-append}
 use Rattle.std.proofs.lemmas.List.Sums.{sum_by-cons}
 use Rattle.onvm_base.specs.declared.frame.Frame.{Frame}
@@ -8,7 +8,7 @@ use Rattle.pcap_in.specs.Reading.{Reading, AtRecord, EndsInHeader, EndsInRecord,
 use Rattle.pcap_in.specs.declared.pull.Pull.TheVariants as pull
 use Rattle.onvm_top.specs.Fed.{HasRead, IsBehind, EndsEarly}
 use Rattle.pcap_in.specs.Faulty.{AreRecordsUpTo, IsCaptureUpTo}
-use Rattle.pcap_in.specs.Reading.{IsFaulty, IsTornHeader, IsTornRecord, BreaksHeader, BreaksRecord}
+use Rattle.pcap_in.specs.Reading.{IsFaulty, IsTornHeader, IsTornRecord}
 use Rattle.pcap_in.specs.declared.pull.PcapFault.{PcapFault}
 use Rattle.pcap_in.specs.declared.pull.PcapFault.TheVariants.{Magic, Version, Link, Torn, TooLong, Fraction}
 use Rattle.pcap_in.proofs.Faults.{AreRecordsUpTo-behind, BreaksHeader-append, BreaksRecord-append}

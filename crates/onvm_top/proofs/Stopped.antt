@@ -1,5 +1,5 @@
 -- Where a run stops, told from before its earlier steps and to after its later ones.
-use Rattle.std.proofs.Common.{◌≡◌, ◌∙◌, sym, ap, subst, inl, inr, ◌⊎◌, ℕ, ◌≤◌, List, Option, Some, arith}
+use Rattle.std.proofs.Common.{◌≡◌, ◌∙◌, inl, inr, ℕ, ◌≤◌, List, Option, arith}
 use Rattle.onvm_base.specs.declared.frame.Frame.{Frame}
 use Rattle.onvm_host.specs.Causes.{Rose}
 use Rattle.onvm_host.specs.Files.{Entries}

@@ -1,5 +1,5 @@
 -- The words of a command: a chain file, an output, a capture.
-use Rattle.std.specs.Prelude.{◌≡◌, ℕ, Bool, true, false, ◌==◌, List, [], ◌∷◌, codes, nat_eq}
+use Rattle.std.specs.Prelude.{◌≡◌, ℕ, Bool, false, ◌==◌, List, [], ◌∷◌, codes, nat_eq}
 use Rattle.std.specs.List.{starts_with}
 
 -- `-` with something behind it

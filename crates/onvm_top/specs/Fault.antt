@@ -1,7 +1,6 @@
 -- How a run ends that a fault stops, and the line that says it.
 use Rattle.std.specs.Prelude.{ℕ, List, ◌++◌, ◌∷◌, [], codes}
 use Rattle.std.specs.Fmt.{decimal}
-use Rattle.onvm_base.specs.declared.ids.PortId.{PortId}
 use Rattle.onvm_base.specs.declared.status.Status.{Status}
 use Rattle.onvm_base.specs.declared.status.Status.TheVariants as status
 use Rattle.pcap_in.specs.declared.pull.PcapFault.{PcapFault}

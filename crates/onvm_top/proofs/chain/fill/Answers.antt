@@ -1,4 +1,4 @@
-use Rattle.std.proofs.Common.{◌≡◌, sym, subst, ◌≤◌, ◌<◌, List, ℕ, length, take, arith, rules}
+use Rattle.std.proofs.Common.{sym, subst, List, ℕ, take, arith, rules}
 use Rattle.std.specs.Io.KnownBytes.{Consumes}
 use Rattle.onvm_top.proofs.Known.{Consumes-append, length-written, take-written}
 use Rattle.onvm_top.proofs.chain.fill.Goals as goal

@@ -1,4 +1,4 @@
-use Rattle.std.proofs.Common.{◌≡◌, ◌∙◌, sym, subst, ◌++◌, ◌∷◌, [], Ok, Err, rules}
+use Rattle.std.proofs.Common.{◌≡◌, ◌∙◌, sym, subst, ◌++◌, ◌∷◌, [], Err, rules}
 use Rattle.onvm_base.specs.declared.frame.Frame.{Frame}
 use Rattle.std.proofs.Common.{List}
 use Rattle.pcap_in.specs.Reading.{Pulls}
@@ -7,7 +7,6 @@ use Rattle.onvm_top.specs.Fed.{HasRead}
 use Rattle.std.proofs.lemmas.Result.{err_from_is_err_and}
 use Rattle.pcap_in.specs.Faulty.{IsCaptureUpTo}
 use Rattle.pcap_in.specs.declared.pull.PcapFault.{PcapFault}
-use Rattle.onvm_top.specs.Limits.{IsWithinLimits}
 use Rattle.onvm_top.specs.declared.input.CaptureFault.TheVariants as fault
 use Rattle.onvm_top.proofs.Captured.{HasRead-pulled, IsCapture-ended, IsCaptureUpTo-met, PassesLimit-pulled}
 use Rattle.onvm_top.proofs.input.pull_frames.Goals as goal

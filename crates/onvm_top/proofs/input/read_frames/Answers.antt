@@ -1,12 +1,10 @@
-use Rattle.std.proofs.Common.{◌≡◌, ◌∙◌, sym, ap, subst, ◌<◌, ◌+◌, ◌++◌, List, ℕ, length, Ok, Err, arith, rules}
+use Rattle.std.proofs.Common.{◌≡◌, ◌∙◌, sym, ap, subst, ◌++◌, List, ℕ, Ok, Err, arith}
 use Rattle.std.proofs.lemmas.List.{length-append}
 use Rattle.onvm_base.specs.declared.frame.Frame.{Frame}
 use Rattle.pcap_in.specs.Classic.{IsCapture}
-use Rattle.onvm_top.specs.Fed.{Feeds, HasRead}
 use Rattle.onvm_top.proofs.Captured.{HasRead-bound, HasRead-fed, HasRead-length}
 use Rattle.std.proofs.lemmas.Result.{err_from_is_err_and}
 use Rattle.pcap_in.specs.Faulty.{IsCaptureUpTo}
-use Rattle.pcap_in.specs.declared.pull.PcapFault.{PcapFault}
 use Rattle.onvm_top.specs.Limits.{IsWithinLimits, PassesLimit}
 use Rattle.onvm_top.specs.declared.input.CaptureFault.TheVariants as fault
 use Rattle.onvm_top.proofs.Known.{Consumes-append, Consumes-rest, Consumes-to_end, IsAtEnd-left}

@@ -1,4 +1,4 @@
-use Rattle.std.proofs.Common.{◌≡◌, ◌∙◌, sym, ap, refl, inl, inr, Ok, Err, rules}
+use Rattle.std.proofs.Common.{◌≡◌, refl, inl, inr, Err, rules}
 use Rattle.onvm_top.specs.declared.input.CaptureFault.TheVariants as input
 use Rattle.onvm_top.proofs.manager.read_capture.Goals as goal
 

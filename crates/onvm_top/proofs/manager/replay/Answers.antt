@@ -1,8 +1,8 @@
-use Rattle.std.proofs.Common.{◌≡◌, ◌∙◌, sym, ap, subst, refl, inl, inr, ◌≤◌, List, ℕ, arith}
+use Rattle.std.proofs.Common.{◌∙◌, sym, subst, refl, inl, inr, ◌≤◌, List, arith}
 use Rattle.onvm_base.specs.declared.frame.Frame.{Frame}
 use Rattle.pcap_in.specs.Emitted.{emit}
 use Rattle.onvm_top.specs.Command.{Command}
-use Rattle.onvm_top.specs.Replay.{all_sent, sent_frames, OnlyChanges}
+use Rattle.onvm_top.specs.Replay.{all_sent, OnlyChanges}
 use Rattle.std.proofs.lemmas.Result.{err_from_is_err_and}
 use Rattle.onvm_top.proofs.Sent.{sent_frames-all_sent}
 use Rattle.onvm_top.proofs.Stopped.{StopsAtCapture-earlier, StopsAtOutput-earlier}

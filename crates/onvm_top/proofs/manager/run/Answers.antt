@@ -1,9 +1,9 @@
-use Rattle.std.proofs.Common.{◌≡◌, ◌∙◌, sym, ap, subst, refl, inl, inr, ℕ, List, Option, map, rules}
+use Rattle.std.proofs.Common.{◌≡◌, ◌∙◌, sym, subst, ℕ, List, Option, map, rules}
 use Rattle.std.specs.Prelude.{string_bytes}
 use Rattle.onvm_host.specs.Files.{Entries}
 use Rattle.onvm_base.specs.declared.status.Status.{Status}
 use Rattle.onvm_base.specs.declared.status.Status.TheVariants as status
-use Rattle.onvm_top.specs.Fault.{line_of, status_of}
+use Rattle.onvm_top.specs.Fault.{line_of}
 use Rattle.onvm_top.specs.Known.{SaysOnce}
 use Rattle.onvm_top.specs.Stops.{IsStopped}
 use Rattle.onvm_top.proofs.Answered.{IsAnswer, IsAnswer-stopped, bad_capture, complete, other_chain}

@@ -1,4 +1,4 @@
-use Rattle.std.proofs.Common.{◌<◌, ◌≤◌, ◌++◌, subst, refl, List, ℕ, length, arith, rules}
+use Rattle.std.proofs.Common.{subst, List, ℕ, arith, rules}
 use Rattle.std.specs.List.{flat_map}
 use Rattle.std.specs.Io.KnownBytes.{Appends}
 use Rattle.pcap_in.specs.Emitted.{emit, emitted_header, emitted_frame}
