@@ -8,17 +8,17 @@ use std::env;
 use std::io::{self, ErrorKind};
 use std::process::ExitCode;
 
-fn main(rt: HostRuntime) -> io::Result<ExitCode> {
+fn main(rt: HostRuntime) -> ExitCode {
     let status = match words(&rt) {
-        Ok(words) => replay(&rt, &words)?,
+        Ok(words) => replay(&rt, &words),
         // A word that is no text is no command.
-        Err(error) if error.kind() == ErrorKind::InvalidData => replay(&rt, &[])?,
+        Err(error) if error.kind() == ErrorKind::InvalidData => replay(&rt, &[]),
         Err(_) => {
-            println!(rt; "fault memory")?;
+            let _ = println!(rt; "fault memory");
             Status::Memory
         }
     };
-    Ok(ExitCode::from(status.code()))
+    ExitCode::from(status.code())
 }
 
 // The words behind the program's name.
@@ -27,8 +27,8 @@ fn words(rt: &HostRuntime) -> io::Result<Vec<String>> {
     Ok(words)
 }
 
-fn replay(rt: &HostRuntime, words: &[String]) -> io::Result<Status> {
-    let mut host = FileHost::make(rt.clone()?);
-    let clock = SysClock::make(rt.clone()?);
-    Ok(run(rt, words, &mut host, &clock, &OpenGate))
+fn replay(rt: &HostRuntime, words: &[String]) -> Status {
+    let mut host = FileHost::make(*rt);
+    let clock = SysClock::make(*rt);
+    run(rt, words, &mut host, &clock, &OpenGate)
 }

@@ -44,13 +44,13 @@ IsAnswer-stopped words told told_now before now fault (inr (inl (command, is, in
     subst P (sym memory) ((command, is), same)
 IsAnswer-stopped words told told_now before now fault (inr (inr (inl (command, is, chain, inl broken, same)))) =
     let P : Fault → Type 0 = λ f. IsAnswer words told told_now before now (status_of f) in
-    subst P (sym broken.2) ((command, is, λ files told_is. (chain files told_is, inl (broken.1, broken.3 files told_is))), same)
+    subst P (sym broken.1) ((command, is, λ files told_is. (chain files told_is, inl (broken.0, broken.2 files told_is))), same)
 IsAnswer-stopped words told told_now before now fault (inr (inr (inl (command, is, chain, inr (inl large), same)))) =
     let P : Fault → Type 0 = λ f. IsAnswer words told told_now before now (status_of f) in
-    subst P (sym large.1) ((command, is, λ files told_is. (chain files told_is, inr (large.2 files told_is))), same)
+    subst P (sym large.0) ((command, is, λ files told_is. (chain files told_is, inr (large.1 files told_is))), same)
 IsAnswer-stopped words told told_now before now fault (inr (inr (inl (command, is, chain, inr (inr (inl read)), same)))) =
     let P : Fault → Type 0 = λ f. IsAnswer words told told_now before now (status_of f) in
-    subst P (sym read.1) ((command, is, read.2), same)
+    subst P (sym read.0) ((command, is, read.1), same)
 IsAnswer-stopped words told told_now before now fault (inr (inr (inl (command, is, chain, inr (inr (inr memory)), same)))) =
     let P : Fault → Type 0 = λ f. IsAnswer words told told_now before now (status_of f) in
     subst P (sym memory) ((command, is), same)

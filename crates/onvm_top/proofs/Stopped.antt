@@ -22,11 +22,11 @@ OnTold-same told told' P same holds = λ files is. holds files (same ∙ is)
 pub StopsAtCapture-earlier : (name : List ℕ) (told told' : Option Entries) (before later now : ℕ) (fault : Fault) → told' ≡ told
     → before ≤ later → StopsAtCapture name told' later now fault → StopsAtCapture name told before now fault
 StopsAtCapture-earlier name told told' before later now fault same order (inl broken) =
-    inl (broken.0, broken.1, broken.2, λ files is. broken.3 files (same ∙ is))
+    inl (broken.0, broken.1, λ files is. broken.2 files (same ∙ is))
 StopsAtCapture-earlier name told told' before later now fault same order (inr (inl large)) =
-    inr (inl (large.0, large.1, λ files is. large.2 files (same ∙ is)))
+    inr (inl (large.0, λ files is. large.1 files (same ∙ is)))
 StopsAtCapture-earlier name told told' before later now fault same order (inr (inr (inl read))) =
-    inr (inr (inl (read.0, read.1, Rose-earlier before later now order read.2)))
+    inr (inr (inl (read.0, Rose-earlier before later now order read.1)))
 StopsAtCapture-earlier name told told' before later now fault same order (inr (inr (inr memory))) = inr (inr (inr memory))
 
 pub StopsAtOutput-earlier : (name : List ℕ) (frames : List Frame) (told told' told_now : Option Entries) (before later now : ℕ) (fault : Fault)

@@ -18,12 +18,16 @@ StopsAtChain name told before now fault =
     ⊎ ((fault ≡ ReadChain) × Rose before now)
     ⊎ (fault ≡ Memory)
 
+-- the port that the capture is received on
+abbrev pub only_port : PortId
+only_port = record { 0 = 0 }
+
 -- at the capture of this name
 abbrev pub StopsAtCapture : List ℕ → Option Entries → ℕ → ℕ → Fault → Type 0
 StopsAtCapture name told before now fault =
-    ((port : PortId) × (cause : PcapFault) × (fault ≡ Broken port cause) × OnTold told (λ files. IsFaultyCapture name files cause))
-    ⊎ ((port : PortId) × (fault ≡ TooMany port) × OnTold told (IsLargeCapture name))
-    ⊎ ((port : PortId) × (fault ≡ ReadCapture port) × Rose before now)
+    ((cause : PcapFault) × (fault ≡ Broken only_port cause) × OnTold told (λ files. IsFaultyCapture name files cause))
+    ⊎ ((fault ≡ TooMany only_port) × OnTold told (IsLargeCapture name))
+    ⊎ ((fault ≡ ReadCapture only_port) × Rose before now)
     ⊎ (fault ≡ Memory)
 
 -- at the output of this name, to which these frames go

@@ -13,8 +13,8 @@ pub const FORWARDING_CHAIN: [u8; 155] =
 // One byte more than the file has, so that a longer one shows.
 const ROOM: usize = 156;
 
-/// Whether the bytes of a source are those of the forwarding chain. It takes no more than are
-/// needed to tell.
+/// Whether the bytes of a source are those of the forwarding chain. It takes one more than they are
+/// at most.
 pub fn is_forwarding_chain<S: Source>(source: &mut S) -> Result<bool, Failed>
     ensures exact { IfOk result (λ same. (bytes : List ℕ) → S.left source.old ≡ Some bytes
         → (IsTrue same ↔ (bytes ≡ FORWARDING_CHAIN))) }

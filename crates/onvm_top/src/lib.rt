@@ -1,7 +1,7 @@
 //! A whole run of onvm: words in, a capture out.
 //!
 //! A *command* names a chain file, an output and a capture. A run *replays* the capture: it reads
-//! all frames, walks them through the chain, and writes those that are sent. What stops it is a
+//! all frames and writes those that the chain sends, today each of them. What stops it is a
 //! *fault*, which has a status and a line.
 #![tactic(auto)]
 

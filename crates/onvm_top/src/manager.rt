@@ -62,7 +62,9 @@ pub fn run<R: AllocGlobal, H: Host, C: Clock, G: Gate>(
     // Nothing is left behind, and what stopped the run is said once.
     ensures none_made { result ≢ Status.Done → result ≢ Status.Write → H.files host.new ≡ H.files host.old }
     ensures quiet { result ≡ Status.Done → H.said host.new ≡ H.said host.old }
+    ensures later { H.faults host.old ≤ H.faults host.new }
     ensures line { result ≢ Status.Done → (fault : Fault) × (count : ℕ) × (status_of fault ≡ result)
+        × (H.faults host.old ≤ count)
         × IsStopped (map string_bytes words.now) (H.files host.old) (H.files host.new) (H.faults host.old) count fault
         × SaysOnce (H.said host.old) (H.said host.new) count (H.faults host.new) (line_of fault) }
 {

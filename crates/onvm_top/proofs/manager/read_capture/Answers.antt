@@ -6,7 +6,6 @@ pub returns-in-Err-Broken-clause-err : goal.returns-in-Err-Broken-clause-err
 returns-in-Err-Broken-clause-err g c =
     let broken : c.read_frames-frames.result ≡ Err (input.Broken c.in-Err-Broken.fault) = search rules in
     inl (
-      record { 0 = 0 },
       c.in-Err-Broken.fault,
       refl,
       λ files told.
@@ -19,7 +18,6 @@ pub returns-in-Err-TooMany-clause-err : goal.returns-in-Err-TooMany-clause-err
 returns-in-Err-TooMany-clause-err g c =
     let large : c.read_frames-frames.result ≡ Err input.TooMany = search rules in
     inr (inl (
-      record { 0 = 0 },
       refl,
       λ files told.
           let opened = c.in-Ok.ensures.left files told in

@@ -56,6 +56,7 @@ returns-in-Err-clause-line g c = λ _.
       c.in-Err.fault,
       g.H.Host.faults c.replay.new.host,
       sym c.status.ensures,
+      c.in-Err.ensures.later,
       subst Stopped (sym c.say_all.ensures.files) c.in-Err.ensures.stopped,
       subst Says line_is (subst Said c.in-Err.ensures.said c.say_all.ensures.once),
     )
