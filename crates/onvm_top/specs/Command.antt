@@ -25,6 +25,7 @@ pub record IsCommand (words : List (List ℕ)) (command : Command) : Type 0 wher
   pub is_file : is_generated command.capture ≡ false
 
 -- the files of a command may be opened and created
-abbrev pub MayReplay : (List ℕ → Type 0) → (List ℕ → Type 0) → List (List ℕ) → Type 0
-MayReplay may_open may_create words = (command : Command) → IsCommand words command
-    → may_open command.chain × may_create command.out × may_open command.capture
+pub record MayReplay (may_open may_create : List ℕ → Type 0) (words : List (List ℕ)) : Type 0 where
+  pub opens_chain : (chain out capture : List ℕ) → IsCommand words (record { chain = chain; out = out; capture = capture }) → may_open chain
+  pub creates_out : (chain out capture : List ℕ) → IsCommand words (record { chain = chain; out = out; capture = capture }) → may_create out
+  pub opens_capture : (chain out capture : List ℕ) → IsCommand words (record { chain = chain; out = out; capture = capture }) → may_open capture

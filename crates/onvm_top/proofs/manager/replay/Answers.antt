@@ -11,18 +11,18 @@ use Rattle.onvm_top.proofs.manager.replay.Goals as goal
 pub read_chain-requires-after_bounds : goal.read_chain-requires-after_bounds
 read_chain-requires-after_bounds g c κs within =
     let command : Command = record { chain = c.in-Some.command.chain.now; out = c.in-Some.command.out.now; capture = c.in-Some.command.capture.now } in
-    (c.requires.names command c.in-Some.ensures.found).0
+    c.requires.names.opens_chain command.chain command.out command.capture c.in-Some.ensures.found
 
 pub read_capture-requires-after_bounds : goal.read_capture-requires-after_bounds
 read_capture-requires-after_bounds g c κs within =
     let command : Command = record { chain = c.in-Some.command.chain.now; out = c.in-Some.command.out.now; capture = c.in-Some.command.capture.now } in
-    c.in_ok-read_chain.ensures.names.still_opens command.capture (c.requires.names command c.in-Some.ensures.found).2
+    c.in_ok-read_chain.ensures.names.still_opens command.capture (c.requires.names.opens_capture command.chain command.out command.capture c.in-Some.ensures.found)
 
 pub write_output-requires-after_bounds : goal.write_output-requires-after_bounds
 write_output-requires-after_bounds g c κs within =
     let command : Command = record { chain = c.in-Some.command.chain.now; out = c.in-Some.command.out.now; capture = c.in-Some.command.capture.now } in
     c.in_ok-frames.ensures.names.still_creates command.out
-    (c.in_ok-read_chain.ensures.names.still_creates command.out (c.requires.names command c.in-Some.ensures.found).1)
+    (c.in_ok-read_chain.ensures.names.still_creates command.out (c.requires.names.creates_out command.chain command.out command.capture c.in-Some.ensures.found))
 
 pub returns-clause-done : goal.returns-clause-done
 returns-clause-done g c =
