@@ -77,6 +77,10 @@ FailsToWrite words told told_now before now = (command : Command) × IsCommand w
     × (frames : List Frame) × OnTold told (λ files. IsChain command.chain files × IsGoodCapture command.capture files frames
     × HoldsFront command.out frames files told_now)
 
+-- where the words are a command and the files are told, this holds of both
+abbrev pub OnCommand : List (List ℕ) → Option Entries → (Command → Entries → Type 0) → Type 0
+OnCommand words told P = (command : Command) → IsCommand words command → (files : Entries) → told ≡ Some files → P command files
+
 -- the status is this one, unless the outside failed or memory ran out first
 abbrev pub IsUnlessStopped : Status → Status → Type 0
 IsUnlessStopped expected result = (result ≡ expected) ⊎ (result ≡ status.Read) ⊎ (result ≡ status.Memory)

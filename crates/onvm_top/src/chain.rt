@@ -8,7 +8,7 @@ use onvm_host::Source;
 
 /// One chain of one function, which forwards, and then out of port 0.
 pub const FORWARDING_CHAIN: [u8; 155] =
-    *b"{\"version\":1,\"ports\":1,\"functions\":[{\"name\":\"f\",\"service\":1,\"core\":0,\"kind\":\"forward\"}],\"chains\":[{\"name\":\"a\",\"steps\":[{\"to\":1},{\"out\":0}]}],\"default\":\"a\"}";
+    *br#"{"version":1,"ports":1,"functions":[{"name":"f","service":1,"core":0,"kind":"forward"}],"chains":[{"name":"a","steps":[{"to":1},{"out":0}]}],"default":"a"}"#;
 
 // One byte more than the file has, so that a longer one shows.
 const ROOM: usize = 156;
@@ -28,7 +28,8 @@ pub fn is_forwarding_chain<S: Source>(source: &mut S) -> Result<bool, Failed>
 // Fills the room with the next bytes, and says how many came: fewer than it holds only at the end.
 fn fill<S: Source>(source: &mut S, room: &mut [u8]) -> Result<usize, Failed>
     ensures within { IfOk result (λ count. count ≤ length room.new) }
-    ensures taken { IfOk result (λ count. Consumes (S.left source.old) (S.left source.new) (take count room.new)) }
+    ensures taken { IfOk result (λ count.
+        Consumes (S.left source.old) (S.left source.new) (take count room.new)) }
     ensures short { IfOk result (λ count. count < length room.new → IsAtEnd (S.left source.new)) }
     ensures cause { HasCause (S.faults source.old) (S.faults source.new) result }
 {

@@ -14,7 +14,8 @@ pub struct Command<'a> {
 pub fn command_of<'a>(words: &'a [String]) -> Option<Command<'a>>
     ensures found { IfSome result (λ c. IsCommand (map string_bytes words.entry.now)
         (record { chain = c.chain.now; out = c.out.now; capture = c.capture.now })) }
-    ensures none { IfNone result ((command : Words) → ¬ (IsCommand (map string_bytes words.entry.now) command)) }
+    ensures none { IfNone result ((command : Words)
+        → ¬ (IsCommand (map string_bytes words.entry.now) command)) }
 {
     let [chain, out, capture] = words else {
         return None;

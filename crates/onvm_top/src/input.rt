@@ -28,7 +28,8 @@ pub enum CaptureFault {
 
 /// The frames of a capture.
 pub fn read_frames<S: Source>(alloc: Global, source: &mut S) -> Result<Frames, CaptureFault>
-    ensures whole { IfOk result (λ frames. (text : List ℕ) → S.left source.old ≡ Some text → IsCapture text frames) }
+    ensures whole { IfOk result (λ frames.
+        (text : List ℕ) → S.left source.old ≡ Some text → IsCapture text frames) }
     ensures within { IfOk result (λ frames. IsWithinLimits frames) }
     ensures broken { (fault : PcapFault) → result ≡ Err (CaptureFault.Broken fault)
         → (text : List ℕ) → S.left source.old ≡ Some text
@@ -60,7 +61,8 @@ fn feed_piece<S: Source>(
     requires fits { reader.old.place + length reader.old.rest + length piece.old < 2 ^ 64 }
     ensures ok { OnOk result (Feeds (S.left source.old) (S.left source.new) reader.old reader.new) }
     ensures read { result ≡ Err CaptureFault.Read → Rose (S.faults source.old) (S.faults source.new) }
-    ensures only { IfErr result (λ fault. (fault ≡ CaptureFault.Read) ⊎ (fault ≡ CaptureFault.Memory)) }
+    ensures only { IfErr result (λ fault.
+        (fault ≡ CaptureFault.Read) ⊎ (fault ≡ CaptureFault.Memory)) }
     ensures later { S.faults source.old ≤ S.faults source.new }
 {
     let Ok(count) = source.take(piece) else {
@@ -84,11 +86,15 @@ fn pull_frames(
 ) -> Result<bool, CaptureFault>
     requires within { IsWithinLimits received.old }
     ensures within { IfOk result (λ _. IsWithinLimits received.new) }
-    ensures read { IfOk result (λ _. (fed : List ℕ) → HasRead fed received.old reader.old → HasRead fed received.new reader.new) }
-    ensures finished { IfOk result (λ ended. (reader.old.finished ≡ ended) × (reader.new.finished ≡ ended)) }
-    ensures ended { result ≡ Ok true → (fed : List ℕ) → HasRead fed received.old reader.old → IsCapture fed received.new }
+    ensures read { IfOk result (λ _. (fed : List ℕ)
+        → HasRead fed received.old reader.old → HasRead fed received.new reader.new) }
+    ensures finished { IfOk result (λ ended.
+        (reader.old.finished ≡ ended) × (reader.new.finished ≡ ended)) }
+    ensures ended { result ≡ Ok true
+        → (fed : List ℕ) → HasRead fed received.old reader.old → IsCapture fed received.new }
     ensures broken { (fault : PcapFault) → result ≡ Err (CaptureFault.Broken fault)
-        → (fed more : List ℕ) → HasRead fed received.old reader.old → (reader.old.finished ≡ true → more ≡ [])
+        → (fed more : List ℕ) → HasRead fed received.old reader.old
+        → (reader.old.finished ≡ true → more ≡ [])
         → (frames : List Frame) × IsCaptureUpTo (fed ++ more) frames fault × IsWithinLimits frames }
     ensures too_many { result ≡ Err CaptureFault.TooMany
         → (fed more : List ℕ) → HasRead fed received.old reader.old → PassesLimit (fed ++ more) }

@@ -4,8 +4,8 @@ ghost use Rattle.onvm_base.specs.declared.frame.Frame.{Frame};
 ghost use Rattle.onvm_host.specs.Causes.{Rose, SameNames};
 ghost use Rattle.onvm_host.specs.Files.{Entries};
 ghost use Rattle.pcap_in.specs.Emitted.{emit};
-ghost use Rattle.onvm_top.specs.Answers.{FailsToRead, FailsToWrite, HasBadCapture, HasOtherChain, IsBadCapture, IsChain, IsGoodCapture, IsNoCommand, IsOtherChain, IsUnlessStopped};
-ghost use Rattle.onvm_top.specs.Command.{Command, IsCommand, MayReplay};
+ghost use Rattle.onvm_top.specs.Answers.{FailsToRead, FailsToWrite, HasBadCapture, HasOtherChain, IsBadCapture, IsChain, IsGoodCapture, IsNoCommand, IsOtherChain, IsUnlessStopped, OnCommand};
+ghost use Rattle.onvm_top.specs.Command.{MayReplay};
 ghost use Rattle.onvm_top.specs.Fault.{line_of, status_of};
 ghost use Rattle.onvm_top.specs.Known.{OnTold, SaysOnce};
 ghost use Rattle.onvm_top.specs.Limits.{IsWithinLimits};
@@ -33,14 +33,17 @@ pub fn run<R: AllocGlobal, H: Host, C: Clock, G: Gate>(
     _clock: &C,
     _gate: &G,
 ) -> Status
-    requires names { MayReplay (H.may_open host.old) (H.may_create host.old) (map string_bytes words.now) }
+    requires names { MayReplay (H.may_open host.old) (H.may_create host.old)
+        (map string_bytes words.now) }
 
     // What each status tells.
     ensures done { result ≡ Status.Done
         → IsDone (map string_bytes words.now) (H.files host.old) (H.files host.new) }
     ensures words { result ≡ Status.Words → IsNoCommand (map string_bytes words.now) }
-    ensures plan { result ≡ Status.Plan → HasOtherChain (map string_bytes words.now) (H.files host.old) }
-    ensures capture { result ≡ Status.Capture → HasBadCapture (map string_bytes words.now) (H.files host.old) }
+    ensures plan { result ≡ Status.Plan
+        → HasOtherChain (map string_bytes words.now) (H.files host.old) }
+    ensures capture { result ≡ Status.Capture
+        → HasBadCapture (map string_bytes words.now) (H.files host.old) }
     ensures read { result ≡ Status.Read
         → FailsToRead (map string_bytes words.now) (H.faults host.old) (H.faults host.new) }
     ensures write { result ≡ Status.Write → FailsToWrite (map string_bytes words.now)
@@ -48,24 +51,25 @@ pub fn run<R: AllocGlobal, H: Host, C: Clock, G: Gate>(
 
     // The other way round.
     ensures no_command { IsNoCommand (map string_bytes words.now) → result ≡ Status.Words }
-    ensures other_chain { (command : Command) → IsCommand (map string_bytes words.now) command
-        → (files : Entries) → H.files host.old ≡ Some files → IsOtherChain command.chain files
-        → IsUnlessStopped Status.Plan result }
-    ensures bad_capture { (command : Command) → IsCommand (map string_bytes words.now) command
-        → (files : Entries) → H.files host.old ≡ Some files → IsChain command.chain files
-        → IsBadCapture command.capture files → IsUnlessStopped Status.Capture result }
-    ensures complete { (command : Command) → IsCommand (map string_bytes words.now) command
-        → (files : Entries) → H.files host.old ≡ Some files → IsChain command.chain files
-        → (frames : List Frame) → IsGoodCapture command.capture files frames
-        → ¬ (Rose (H.faults host.old) (H.faults host.new)) → (result ≡ Status.Done) ⊎ (result ≡ Status.Memory) }
+    ensures other_chain { OnCommand (map string_bytes words.now) (H.files host.old) (λ command files.
+        IsOtherChain command.chain files → IsUnlessStopped Status.Plan result) }
+    ensures bad_capture { OnCommand (map string_bytes words.now) (H.files host.old) (λ command files.
+        IsChain command.chain files → IsBadCapture command.capture files
+        → IsUnlessStopped Status.Capture result) }
+    ensures complete { OnCommand (map string_bytes words.now) (H.files host.old) (λ command files.
+        IsChain command.chain files → (frames : List Frame) → IsGoodCapture command.capture files frames
+        → ¬ (Rose (H.faults host.old) (H.faults host.new))
+        → (result ≡ Status.Done) ⊎ (result ≡ Status.Memory)) }
 
     // Nothing is left behind, and what stopped the run is said once.
-    ensures none_made { result ≢ Status.Done → result ≢ Status.Write → H.files host.new ≡ H.files host.old }
+    ensures none_made { result ≢ Status.Done → result ≢ Status.Write
+        → H.files host.new ≡ H.files host.old }
     ensures quiet { result ≡ Status.Done → H.said host.new ≡ H.said host.old }
     ensures later { H.faults host.old ≤ H.faults host.new }
     ensures line { result ≢ Status.Done → (fault : Fault) × (count : ℕ) × (status_of fault ≡ result)
         × (H.faults host.old ≤ count)
-        × IsStopped (map string_bytes words.now) (H.files host.old) (H.files host.new) (H.faults host.old) count fault
+        × IsStopped (map string_bytes words.now) (H.files host.old) (H.files host.new)
+        (H.faults host.old) count fault
         × SaysOnce (H.said host.old) (H.said host.new) count (H.faults host.new) (line_of fault) }
 {
     match replay(rt.alloc(), words, host) {
@@ -79,8 +83,10 @@ pub fn run<R: AllocGlobal, H: Host, C: Clock, G: Gate>(
 
 // The run without its fault line.
 fn replay<H: Host>(alloc: Global, words: &[String], host: &mut H) -> Result<(), Fault>
-    requires names { MayReplay (H.may_open host.old) (H.may_create host.old) (map string_bytes words.now) }
-    ensures done { OnOk result (IsDone (map string_bytes words.now) (H.files host.old) (H.files host.new)) }
+    requires names { MayReplay (H.may_open host.old) (H.may_create host.old)
+        (map string_bytes words.now) }
+    ensures done { OnOk result
+        (IsDone (map string_bytes words.now) (H.files host.old) (H.files host.new)) }
     ensures stopped { IfErr result (λ fault. IsStopped (map string_bytes words.now)
         (H.files host.old) (H.files host.new) (H.faults host.old) (H.faults host.new) fault) }
     ensures said { H.said host.new ≡ H.said host.old }
@@ -99,11 +105,13 @@ fn replay<H: Host>(alloc: Global, words: &[String], host: &mut H) -> Result<(), 
 fn read_chain<H: Host>(host: &mut H, name: &str) -> Result<(), Fault>
     requires { H.may_open host.old name.now }
     ensures ok { OnOk result (OnTold (H.files host.old) (IsChain name.now)) }
-    ensures err { IfErr result (λ fault. StopsAtChain name.now (H.files host.old) (H.faults host.old) (H.faults host.new) fault) }
+    ensures err { IfErr result (λ fault. StopsAtChain name.now (H.files host.old)
+        (H.faults host.old) (H.faults host.new) fault) }
     ensures later { H.faults host.old ≤ H.faults host.new }
     ensures files { H.files host.new ≡ H.files host.old }
     ensures said { H.said host.new ≡ H.said host.old }
-    ensures names { SameNames (H.may_open host.old) (H.may_create host.old) (H.may_open host.new) (H.may_create host.new) }
+    ensures names { SameNames (H.may_open host.old) (H.may_create host.old)
+        (H.may_open host.new) (H.may_create host.new) }
 {
     let mut input = match host.open_input(name) {
         Ok(input) => input,
@@ -122,13 +130,16 @@ fn read_chain<H: Host>(host: &mut H, name: &str) -> Result<(), Fault>
 // Reads the capture to its end.
 fn read_capture<H: Host>(alloc: Global, host: &mut H, name: &str) -> Result<Frames, Fault>
     requires { H.may_open host.old name.now }
-    ensures ok { IfOk result (λ frames. OnTold (H.files host.old) (λ files. IsGoodCapture name.now files frames)) }
+    ensures ok { IfOk result (λ frames.
+        OnTold (H.files host.old) (λ files. IsGoodCapture name.now files frames)) }
     ensures within { IfOk result (λ frames. IsWithinLimits frames) }
-    ensures err { IfErr result (λ fault. StopsAtCapture name.now (H.files host.old) (H.faults host.old) (H.faults host.new) fault) }
+    ensures err { IfErr result (λ fault. StopsAtCapture name.now (H.files host.old)
+        (H.faults host.old) (H.faults host.new) fault) }
     ensures later { H.faults host.old ≤ H.faults host.new }
     ensures files { H.files host.new ≡ H.files host.old }
     ensures said { H.said host.new ≡ H.said host.old }
-    ensures names { SameNames (H.may_open host.old) (H.may_create host.old) (H.may_open host.new) (H.may_create host.new) }
+    ensures names { SameNames (H.may_open host.old) (H.may_create host.old)
+        (H.may_open host.new) (H.may_create host.new) }
 {
     let mut input = match host.open_input(name) {
         Ok(input) => input,
@@ -150,7 +161,8 @@ fn read_capture<H: Host>(alloc: Global, host: &mut H, name: &str) -> Result<Fram
 fn write_output<H: Host>(host: &mut H, name: &str, frames: &Frames) -> Result<(), Fault>
     requires { H.may_create host.old name.now }
     ensures ok { OnOk result ((files : Entries) → H.files host.old ≡ Some files
-        → (now : Entries) × (H.files host.new ≡ Some now) × OnlyChanges name.now (emit frames.now) files now) }
+        → (now : Entries) × (H.files host.new ≡ Some now)
+        × OnlyChanges name.now (emit frames.now) files now) }
     ensures err { IfErr result (λ fault. StopsAtOutput name.now frames.now
         (H.files host.old) (H.files host.new) (H.faults host.old) (H.faults host.new) fault) }
     ensures later { H.faults host.old ≤ H.faults host.new }

@@ -54,7 +54,8 @@ fn put_frame<K: Sink>(sink: &mut K, frame: &Frame) -> Result<(), Failed>
 /// Says the whole piece.
 pub fn say_all<H: Host>(host: &mut H, piece: &[u8]) -> Result<(), Failed>
     ensures ok { OnOk result (Appends (H.said host.old) (H.said host.new) piece.now) }
-    ensures once { SaysOnce (H.said host.old) (H.said host.new) (H.faults host.old) (H.faults host.new) piece.now }
+    ensures once { SaysOnce (H.said host.old) (H.said host.new)
+        (H.faults host.old) (H.faults host.new) piece.now }
     ensures files { H.files host.new ≡ H.files host.old }
     ensures cause { HasCause (H.faults host.old) (H.faults host.new) result }
 {

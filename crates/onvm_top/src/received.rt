@@ -41,8 +41,10 @@ impl Received {
     pub fn add(&mut self, frame: Frame) -> Result<(), CaptureFault>
         ensures ok { OnOk result (self.new ≡ self.old ++ frame ∷ []) }
         ensures within { IsWithinLimits self.new }
-        ensures too_many { result ≡ Err CaptureFault.TooMany → ¬ (IsWithinLimits (self.old ++ frame ∷ [])) }
-        ensures only { IfErr result (λ fault. (fault ≡ CaptureFault.TooMany) ⊎ (fault ≡ CaptureFault.Memory)) }
+        ensures too_many { result ≡ Err CaptureFault.TooMany
+            → ¬ (IsWithinLimits (self.old ++ frame ∷ [])) }
+        ensures only { IfErr result (λ fault.
+            (fault ≡ CaptureFault.TooMany) ⊎ (fault ≡ CaptureFault.Memory)) }
     {
         let bytes = self.bytes + frame.packet.bytes().len() as u64;
         if self.frames.len() == MAX_PORT_FRAMES || bytes > MAX_PORT_BYTES {

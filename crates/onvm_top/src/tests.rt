@@ -192,6 +192,20 @@ fn the_largest_record_is_sent_unchanged(rt: HostRuntime) -> Result<(), Fail> {
     Ok(())
 }
 
+// 262,145 records without bytes: one more than a port takes.
+#[test]
+fn one_frame_too_many_is_refused(rt: HostRuntime) -> Result<(), Fail> {
+    let mut capture = Vec::from_slice(rt.alloc(), &CAPTURE[..24])?;
+    for _ in 0..262_145 {
+        capture.extend_from_slice(&[0; 16])?;
+    }
+    let mut host = host_with(rt.alloc(), CHAIN, &capture, &[])?;
+    assert_eq!(rt; replay(&rt, &mut host, &["c", "o", "k"])?, Status::Capture);
+    assert_eq!(rt; host.said(), b"fault capture 0 too-many\n".as_slice());
+    assert!(rt; host.file("o").is_none());
+    Ok(())
+}
+
 #[test]
 fn a_failed_take_makes_nothing(rt: HostRuntime) -> Result<(), Fail> {
     let files = files_of(rt.alloc(), CHAIN, &CAPTURE, &[1])?;
