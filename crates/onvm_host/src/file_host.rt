@@ -103,26 +103,33 @@ impl<F: Write + Drop> Sink for FileOutput<F> {
 #[derive(Drop)]
 pub struct FileHost<R> {
     rt: R,
-    faults: u64,
+    input_faults: u64,
+    output_faults: u64,
 }
 
 impl<R> FileHost<R> {
+    /// A host that has counted nothing.
     pub fn make(rt: R) -> FileHost<R>
-        ensures { result.faults ≡ 0 }
+        ensures inputs { result.input_faults ≡ 0 }
+        ensures outputs { result.output_faults ≡ 0 }
     {
-        FileHost { rt, faults: 0 }
-    }
-
-    // Why a file was not opened or made.
-    fn fault_of(&mut self, error: io::Error) -> HostFault
-        ensures later { self.old.faults ≤ self.new.faults }
-        ensures failed { result ≡ HostFault.Failed → Rose self.old.faults self.new.faults }
-        ensures memory { result ≡ HostFault.Memory → error_kind error ≡ ErrorKind.OutOfMemory }
-    {
-        match error.kind() {
-            ErrorKind::OutOfMemory => HostFault::Memory,
-            _ => HostFault::from(raise(&mut self.faults)),
+        FileHost {
+            rt,
+            input_faults: 0,
+            output_faults: 0,
         }
+    }
+}
+
+// Why a file was not opened or made.
+fn fault_of(error: io::Error, faults: &mut u64) -> HostFault
+    ensures later { faults.old ≤ faults.new }
+    ensures failed { result ≡ HostFault.Failed → Rose faults.old faults.new }
+    ensures memory { result ≡ HostFault.Memory → error_kind error ≡ ErrorKind.OutOfMemory }
+{
+    match error.kind() {
+        ErrorKind::OutOfMemory => HostFault::Memory,
+        _ => HostFault::from(raise(faults)),
     }
 }
 
@@ -139,7 +146,9 @@ where
 
     ghost said = { λ _. None };
 
-    ghost faults = { λ host. host.faults };
+    ghost input_faults = { λ host. host.input_faults };
+
+    ghost output_faults = { λ host. host.output_faults };
 
     ghost may_open = { λ _ _. ⊤ };
 
@@ -148,7 +157,7 @@ where
     fn open_input(&mut self, name: &str) -> Result<FileInput<R::File>, HostFault> {
         match File::open(&self.rt, name) {
             Ok(file) => Ok(FileInput { file, faults: 0 }),
-            Err(error) => Err(self.fault_of(error)),
+            Err(error) => Err(fault_of(error, &mut self.input_faults)),
         }
     }
 
@@ -162,7 +171,7 @@ where
         };
         match File::create(&self.rt, name) {
             Ok(file) => writer.get_mut().file = Some(file),
-            Err(error) => return Err(self.fault_of(error)),
+            Err(error) => return Err(fault_of(error, &mut self.output_faults)),
         }
         Ok(FileOutput {
             writer,
@@ -173,23 +182,23 @@ where
 
     fn shut(&mut self, input: FileInput<R::File>) {
         if input.faults > 0 {
-            raise(&mut self.faults);
+            raise(&mut self.input_faults);
         }
     }
 
     fn keep(&mut self, mut output: FileOutput<R::File>) -> Result<(), Failed> {
         if output.faults > 0 {
-            raise(&mut self.faults);
+            raise(&mut self.output_faults);
         }
         match output.writer.flush() {
             Ok(()) => Ok(()),
-            Err(_) => Err(raise(&mut self.faults)),
+            Err(_) => Err(raise(&mut self.output_faults)),
         }
     }
 
     fn say(&mut self, piece: &[u8]) -> Result<usize, Failed> {
         let answer = io::writer(&self.rt).write(piece);
-        count_of(answer, piece, &mut self.faults)
+        count_of(answer, piece, &mut self.output_faults)
     }
 }
 

@@ -55,8 +55,11 @@ pub trait Host {
     /// What was said, where the host tells it.
     ghost said: { Self → Option (List ℕ) };
 
-    /// How often a call has failed.
-    ghost faults: { Self → ℕ };
+    /// How often an input could not be opened, or was shut after a failed take.
+    ghost input_faults: { Self → ℕ };
+
+    /// How often an output could not be created or kept, or something could not be said.
+    ghost output_faults: { Self → ℕ };
 
     /// Which names may be opened.
     ghost may_open: { Self → List ℕ → Type 0 };
@@ -69,10 +72,11 @@ pub trait Host {
         requires { may_open self.old name.now }
         ensures left { IfOk result (λ input. Opens (files self.old) name.now (Self.Input.left input)) }
         ensures fresh { IfOk result (λ input. Self.Input.faults input ≡ 0) }
+        ensures outputs { output_faults self.new ≡ output_faults self.old }
         ensures files { files self.new ≡ files self.old }
         ensures said { said self.new ≡ said self.old }
         ensures names { SameNames (may_open self.old) (may_create self.old) (may_open self.new) (may_create self.new) }
-        ensures cause { HasHostCause (faults self.old) (faults self.new) result };
+        ensures cause { HasHostCause (input_faults self.old) (input_faults self.new) result };
 
     /// Makes an empty file.
     fn create_output(&mut self, name: &str) -> Result<Self::Output, HostFault>
@@ -81,34 +85,38 @@ pub trait Host {
         ensures empty { IfOk result (λ output. IsSome (files self.old) → Self.Output.held output ≡ Some []) }
         ensures named { IfOk result (λ output. Self.Output.name output ≡ name.now) }
         ensures fresh { IfOk result (λ output. Self.Output.faults output ≡ 0) }
+        ensures inputs { input_faults self.new ≡ input_faults self.old }
         ensures err { OnErr result (files self.new ≡ files self.old) }
         ensures said { said self.new ≡ said self.old }
         ensures names { SameNames (may_open self.old) (may_create self.old) (may_open self.new) (may_create self.new) }
-        ensures cause { HasHostCause (faults self.old) (faults self.new) result };
+        ensures cause { HasHostCause (output_faults self.old) (output_faults self.new) result };
 
     /// Ends an input. Where a call of it failed, the host counts a fault.
     fn shut(&mut self, input: Self::Input)
+        ensures outputs { output_faults self.new ≡ output_faults self.old }
         ensures files { files self.new ≡ files self.old }
         ensures said { said self.new ≡ said self.old }
         ensures names { SameNames (may_open self.old) (may_create self.old) (may_open self.new) (may_create self.new) }
-        ensures later { faults self.old ≤ faults self.new }
-        ensures counted { 0 < Self.Input.faults input → Rose (faults self.old) (faults self.new) };
+        ensures later { input_faults self.old ≤ input_faults self.new }
+        ensures counted { 0 < Self.Input.faults input → Rose (input_faults self.old) (input_faults self.new) };
 
     /// Leaves under the output's name what it holds, also where it answers Failed. Where a call of
     /// it failed, the host counts a fault.
     fn keep(&mut self, output: Self::Output) -> Result<(), Failed>
+        ensures inputs { input_faults self.new ≡ input_faults self.old }
         ensures files { files self.new ≡ kept_files (Self.Output.name output) (Self.Output.held output) (files self.old) }
         ensures said { said self.new ≡ said self.old }
         ensures names { SameNames (may_open self.old) (may_create self.old) (may_open self.new) (may_create self.new) }
-        ensures cause { HasCause (faults self.old) (faults self.new) result }
-        ensures counted { 0 < Self.Output.faults output → Rose (faults self.old) (faults self.new) };
+        ensures cause { HasCause (output_faults self.old) (output_faults self.new) result }
+        ensures counted { 0 < Self.Output.faults output → Rose (output_faults self.old) (output_faults self.new) };
 
     /// Says the first bytes of the piece, at least one of a piece that is not empty.
     fn say(&mut self, piece: &[u8]) -> Result<usize, Failed>
         ensures bound { WritesAtMost result piece.now }
         ensures some { IfOk result (λ n. 0 < length piece.now → 0 < n) }
         ensures bytes { WriteAppends (said self.old) (said self.new) result piece.now }
+        ensures inputs { input_faults self.new ≡ input_faults self.old }
         ensures files { files self.new ≡ files self.old }
         ensures names { SameNames (may_open self.old) (may_create self.old) (may_open self.new) (may_create self.new) }
-        ensures cause { HasCause (faults self.old) (faults self.new) result };
+        ensures cause { HasCause (output_faults self.old) (output_faults self.new) result };
 }

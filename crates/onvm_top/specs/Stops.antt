@@ -36,13 +36,21 @@ StopsAtOutput name frames told told_now before now fault =
     ((fault ≡ Write) × Rose before now × OnTold told (λ files. HoldsFront name frames files told_now))
     ⊎ ((fault ≡ Memory) × (told_now ≡ told))
 
+-- the host's counts of faults before and now, for inputs and for outputs
+pub record Counts : Type 0 where
+  pub inputs_before : ℕ
+  pub inputs_now : ℕ
+  pub outputs_before : ℕ
+  pub outputs_now : ℕ
+
 -- at the words, the chain file, the capture or the output. Before the output no file changes
-abbrev pub IsStopped : List (List ℕ) → Option Entries → Option Entries → ℕ → ℕ → Fault → Type 0
-IsStopped words told told_now before now fault =
+abbrev pub IsStopped : List (List ℕ) → Option Entries → Option Entries → Counts → Fault → Type 0
+IsStopped words told told_now counts fault =
     ((fault ≡ Words) × IsNoCommand words × (told_now ≡ told))
-    ⊎ ((command : Command) × IsCommand words command × StopsAtChain command.chain told before now fault × (told_now ≡ told))
+    ⊎ ((command : Command) × IsCommand words command
+    × StopsAtChain command.chain told counts.inputs_before counts.inputs_now fault × (told_now ≡ told))
     ⊎ ((command : Command) × IsCommand words command × OnTold told (IsChain command.chain)
-    × StopsAtCapture command.capture told before now fault × (told_now ≡ told))
+    × StopsAtCapture command.capture told counts.inputs_before counts.inputs_now fault × (told_now ≡ told))
     ⊎ ((command : Command) × IsCommand words command × OnTold told (IsChain command.chain)
     × (frames : List Frame) × OnTold told (λ files. IsGoodCapture command.capture files frames)
-    × StopsAtOutput command.out frames told told_now before now fault)
+    × StopsAtOutput command.out frames told told_now counts.outputs_before counts.outputs_now fault)

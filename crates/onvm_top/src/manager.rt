@@ -45,9 +45,11 @@ pub fn run<R: AllocGlobal, H: Host, C: Clock, G: Gate>(
     ensures capture { result ≡ Status.Capture
         → HasBadCapture (map string_bytes words.now) (H.files host.old) }
     ensures read { result ≡ Status.Read
-        → FailsToRead (map string_bytes words.now) (H.faults host.old) (H.faults host.new) }
+        → FailsToRead (map string_bytes words.now)
+            (H.input_faults host.old) (H.input_faults host.new) }
     ensures write { result ≡ Status.Write → FailsToWrite (map string_bytes words.now)
-        (H.files host.old) (H.files host.new) (H.faults host.old) (H.faults host.new) }
+        (H.files host.old) (H.files host.new)
+        (H.output_faults host.old) (H.output_faults host.new) }
 
     // The other way round.
     ensures no_command { IsNoCommand (map string_bytes words.now) → result ≡ Status.Words }
@@ -58,19 +60,22 @@ pub fn run<R: AllocGlobal, H: Host, C: Clock, G: Gate>(
         → IsUnlessStopped Status.Capture result) }
     ensures complete { OnCommand (map string_bytes words.now) (H.files host.old) (λ command files.
         IsChain command.chain files → (frames : List Frame) → IsGoodCapture command.capture files frames
-        → ¬ (Rose (H.faults host.old) (H.faults host.new))
+        → ¬ (Rose (H.input_faults host.old) (H.input_faults host.new))
+        → ¬ (Rose (H.output_faults host.old) (H.output_faults host.new))
         → (result ≡ Status.Done) ⊎ (result ≡ Status.Memory)) }
 
     // Nothing is left behind, and what stopped the run is said once.
     ensures none_made { result ≢ Status.Done → result ≢ Status.Write
         → H.files host.new ≡ H.files host.old }
     ensures quiet { result ≡ Status.Done → H.said host.new ≡ H.said host.old }
-    ensures later { H.faults host.old ≤ H.faults host.new }
+    ensures inputs_later { H.input_faults host.old ≤ H.input_faults host.new }
+    ensures outputs_later { H.output_faults host.old ≤ H.output_faults host.new }
     ensures line { result ≢ Status.Done → (fault : Fault) × (count : ℕ) × (status_of fault ≡ result)
-        × (H.faults host.old ≤ count)
+        × (H.output_faults host.old ≤ count)
         × IsStopped (map string_bytes words.now) (H.files host.old) (H.files host.new)
-        (H.faults host.old) count fault
-        × SaysOnce (H.said host.old) (H.said host.new) count (H.faults host.new) (line_of fault) }
+            (record { inputs_before = H.input_faults host.old; inputs_now = H.input_faults host.new;
+                outputs_before = H.output_faults host.old; outputs_now = count }) fault
+        × SaysOnce (H.said host.old) (H.said host.new) count (H.output_faults host.new) (line_of fault) }
 {
     match replay(rt.alloc(), words, host) {
         Ok(()) => Status::Done,
@@ -88,9 +93,12 @@ fn replay<H: Host>(alloc: Global, words: &[String], host: &mut H) -> Result<(), 
     ensures done { OnOk result
         (IsDone (map string_bytes words.now) (H.files host.old) (H.files host.new)) }
     ensures stopped { IfErr result (λ fault. IsStopped (map string_bytes words.now)
-        (H.files host.old) (H.files host.new) (H.faults host.old) (H.faults host.new) fault) }
+        (H.files host.old) (H.files host.new)
+        (record { inputs_before = H.input_faults host.old; inputs_now = H.input_faults host.new;
+            outputs_before = H.output_faults host.old; outputs_now = H.output_faults host.new }) fault) }
     ensures said { H.said host.new ≡ H.said host.old }
-    ensures later { H.faults host.old ≤ H.faults host.new }
+    ensures inputs_later { H.input_faults host.old ≤ H.input_faults host.new }
+    ensures outputs_later { H.output_faults host.old ≤ H.output_faults host.new }
 {
     let Some(command) = command_of(words) else {
         return Err(Fault::Words);
@@ -106,8 +114,9 @@ fn read_chain<H: Host>(host: &mut H, name: &str) -> Result<(), Fault>
     requires { H.may_open host.old name.now }
     ensures ok { OnOk result (OnTold (H.files host.old) (IsChain name.now)) }
     ensures err { IfErr result (λ fault. StopsAtChain name.now (H.files host.old)
-        (H.faults host.old) (H.faults host.new) fault) }
-    ensures later { H.faults host.old ≤ H.faults host.new }
+        (H.input_faults host.old) (H.input_faults host.new) fault) }
+    ensures later { H.input_faults host.old ≤ H.input_faults host.new }
+    ensures outputs { H.output_faults host.new ≡ H.output_faults host.old }
     ensures files { H.files host.new ≡ H.files host.old }
     ensures said { H.said host.new ≡ H.said host.old }
     ensures names { SameNames (H.may_open host.old) (H.may_create host.old)
@@ -134,8 +143,9 @@ fn read_capture<H: Host>(alloc: Global, host: &mut H, name: &str) -> Result<Fram
         OnTold (H.files host.old) (λ files. IsGoodCapture name.now files frames)) }
     ensures within { IfOk result (λ frames. IsWithinLimits frames) }
     ensures err { IfErr result (λ fault. StopsAtCapture name.now (H.files host.old)
-        (H.faults host.old) (H.faults host.new) fault) }
-    ensures later { H.faults host.old ≤ H.faults host.new }
+        (H.input_faults host.old) (H.input_faults host.new) fault) }
+    ensures later { H.input_faults host.old ≤ H.input_faults host.new }
+    ensures outputs { H.output_faults host.new ≡ H.output_faults host.old }
     ensures files { H.files host.new ≡ H.files host.old }
     ensures said { H.said host.new ≡ H.said host.old }
     ensures names { SameNames (H.may_open host.old) (H.may_create host.old)
@@ -164,8 +174,9 @@ fn write_output<H: Host>(host: &mut H, name: &str, frames: &Frames) -> Result<()
         → (now : Entries) × (H.files host.new ≡ Some now)
         × OnlyChanges name.now (emit frames.now) files now) }
     ensures err { IfErr result (λ fault. StopsAtOutput name.now frames.now
-        (H.files host.old) (H.files host.new) (H.faults host.old) (H.faults host.new) fault) }
-    ensures later { H.faults host.old ≤ H.faults host.new }
+        (H.files host.old) (H.files host.new) (H.output_faults host.old) (H.output_faults host.new) fault) }
+    ensures later { H.output_faults host.old ≤ H.output_faults host.new }
+    ensures inputs { H.input_faults host.new ≡ H.input_faults host.old }
     ensures said { H.said host.new ≡ H.said host.old }
 {
     let mut output = match host.create_output(name) {

@@ -55,9 +55,10 @@ fn put_frame<K: Sink>(sink: &mut K, frame: &Frame) -> Result<(), Failed>
 pub fn say_all<H: Host>(host: &mut H, piece: &[u8]) -> Result<(), Failed>
     ensures ok { OnOk result (Appends (H.said host.old) (H.said host.new) piece.now) }
     ensures once { SaysOnce (H.said host.old) (H.said host.new)
-        (H.faults host.old) (H.faults host.new) piece.now }
+        (H.output_faults host.old) (H.output_faults host.new) piece.now }
     ensures files { H.files host.new ≡ H.files host.old }
-    ensures cause { HasCause (H.faults host.old) (H.faults host.new) result }
+    ensures inputs { H.input_faults host.new ≡ H.input_faults host.old }
+    ensures cause { HasCause (H.output_faults host.old) (H.output_faults host.new) result }
 {
     let mut rest = piece;
     while !rest.is_empty() {

@@ -4,7 +4,7 @@ ghost use Rattle.onvm_host.specs.Files.{file_of};
 ghost use Rattle.onvm_host.specs.Given.{fails_of, given_entries, HaveDistinctNames};
 ghost use Rattle.onvm_host.specs.Memory.{entries_of};
 
-use crate::fault::HostFault;
+use crate::fault::{HostFault, raise};
 use crate::memory::file::{Calls, MemFiles, find_bytes, find_file};
 use crate::memory::input::MemInput;
 use crate::memory::output::MemOutput;
@@ -25,7 +25,9 @@ pub struct MemHost {
     written: Written,
     said: Room,
     space: u64,
+    // Counts all calls, and the faults of outputs and of what is said.
     tally: Tally,
+    input_faults: u64,
 }
 
 impl MemHost {
@@ -40,7 +42,8 @@ impl MemHost {
         ensures files { IfOk result (λ host.
             ⟦<MemHost as Host>⟧.files host ≡ Some (given_entries files)) }
         ensures said { IfOk result (λ host. ⟦<MemHost as Host>⟧.said host ≡ Some []) }
-        ensures faults { IfOk result (λ host. ⟦<MemHost as Host>⟧.faults host ≡ 0) }
+        ensures inputs { IfOk result (λ host. ⟦<MemHost as Host>⟧.input_faults host ≡ 0) }
+        ensures outputs { IfOk result (λ host. ⟦<MemHost as Host>⟧.output_faults host ≡ 0) }
     {
         Ok(MemHost {
             alloc,
@@ -49,6 +52,7 @@ impl MemHost {
             said: Room::make(alloc, space)?,
             space,
             tally: Tally::make(fail),
+            input_faults: 0,
         })
     }
 
@@ -110,17 +114,20 @@ impl Host for MemHost {
 
     ghost said = { λ host. Some host.said.bytes.items };
 
-    ghost faults = { λ host. host.tally.faults };
+    ghost input_faults = { λ host. host.input_faults };
+
+    ghost output_faults = { λ host. host.tally.faults };
 
     ghost may_open = { λ _ _. ⊤ };
 
     ghost may_create = { λ _ _. ⊤ };
 
     fn open_input(&mut self, name: &str) -> Result<MemInput, HostFault> {
-        self.tally.call()?;
+        if self.tally.count() {
+            return Err(HostFault::from(raise(&mut self.input_faults)));
+        }
         let Some(found) = self.file(name) else {
-            self.tally.fault();
-            return Err(HostFault::Failed);
+            return Err(HostFault::from(raise(&mut self.input_faults)));
         };
         let bytes = Vec::from_slice(self.alloc, found)?;
         Ok(MemInput::make(bytes, self.fail_of(name)?))
@@ -137,7 +144,7 @@ impl Host for MemHost {
 
     fn shut(&mut self, input: MemInput) {
         if input.has_failed() {
-            self.tally.fault();
+            raise(&mut self.input_faults);
         }
     }
 

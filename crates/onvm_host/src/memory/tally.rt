@@ -26,6 +26,17 @@ impl Tally {
         }
     }
 
+    /// Counts a call, and says whether it is one that fails.
+    pub(super) fn count(&mut self) -> bool
+        ensures fail { self.new.fail ≡ self.old.fail }
+        ensures calls { self.new.calls ≡ min (self.old.calls + 1) (2 ^ 64 - 1) }
+        ensures listed { result ≡ list_any (λ number. number == self.new.calls) self.old.fail }
+        ensures faults { self.new.faults ≡ self.old.faults }
+    {
+        self.calls = self.calls.saturating_add(1);
+        self.fail.as_slice().contains(&self.calls)
+    }
+
     /// Counts a call, and a fault where it fails.
     pub(super) fn call(&mut self) -> Result<(), Failed>
         ensures fail { self.new.fail ≡ self.old.fail }
@@ -35,8 +46,7 @@ impl Tally {
         ensures faults { OnOk result (self.new.faults ≡ self.old.faults) }
         ensures cause { HasCause self.old.faults self.new.faults result }
     {
-        self.calls = self.calls.saturating_add(1);
-        if self.fail.as_slice().contains(&self.calls) {
+        if self.count() {
             return Err(self.fault());
         }
         Ok(())

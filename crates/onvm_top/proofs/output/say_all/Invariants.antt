@@ -5,7 +5,7 @@ use Rattle.onvm_top.proofs.output.say_all.Given as goal
 -- the front of the piece was appended, and the count has not fallen
 abbrev pub invariant-loop-rest : goal.invariant-loop-rest
 invariant-loop-rest g l =
-    (g.H.Host.faults l.initial.host ≤ g.H.Host.faults l.host)
+    (g.H.Host.output_faults l.initial.host ≤ g.H.Host.output_faults l.host)
     × (g.H.Host.files l.host ≡ g.H.Host.files l.initial.host)
     × ((front : List ℕ) × (l.piece ≡ front ++ l.rest) × Appends (g.H.Host.said l.initial.host) (g.H.Host.said l.host) front)
 
