@@ -46,7 +46,7 @@ pub fn run<R: AllocGlobal, H: Host, C: Clock, G: Gate>(
         → HasBadCapture (map string_bytes words.now) (H.files host.old) }
     ensures read { result ≡ Status.Read
         → FailsToRead (map string_bytes words.now)
-            (H.input_faults host.old) (H.input_faults host.new) }
+        (H.input_faults host.old) (H.input_faults host.new) }
     ensures write { result ≡ Status.Write → FailsToWrite (map string_bytes words.now)
         (H.files host.old) (H.files host.new)
         (H.output_faults host.old) (H.output_faults host.new) }
@@ -73,8 +73,12 @@ pub fn run<R: AllocGlobal, H: Host, C: Clock, G: Gate>(
     ensures line { result ≢ Status.Done → (fault : Fault) × (count : ℕ) × (status_of fault ≡ result)
         × (H.output_faults host.old ≤ count)
         × IsStopped (map string_bytes words.now) (H.files host.old) (H.files host.new)
-            (record { inputs_before = H.input_faults host.old; inputs_now = H.input_faults host.new;
-                outputs_before = H.output_faults host.old; outputs_now = count }) fault
+        (record {
+          inputs_before = H.input_faults host.old;
+          inputs_now = H.input_faults host.new;
+          outputs_before = H.output_faults host.old;
+          outputs_now = count;
+        }) fault
         × SaysOnce (H.said host.old) (H.said host.new) count (H.output_faults host.new) (line_of fault) }
 {
     match replay(rt.alloc(), words, host) {
@@ -94,8 +98,12 @@ fn replay<H: Host>(alloc: Global, words: &[String], host: &mut H) -> Result<(), 
         (IsDone (map string_bytes words.now) (H.files host.old) (H.files host.new)) }
     ensures stopped { IfErr result (λ fault. IsStopped (map string_bytes words.now)
         (H.files host.old) (H.files host.new)
-        (record { inputs_before = H.input_faults host.old; inputs_now = H.input_faults host.new;
-            outputs_before = H.output_faults host.old; outputs_now = H.output_faults host.new }) fault) }
+        (record {
+          inputs_before = H.input_faults host.old;
+          inputs_now = H.input_faults host.new;
+          outputs_before = H.output_faults host.old;
+          outputs_now = H.output_faults host.new;
+        }) fault) }
     ensures said { H.said host.new ≡ H.said host.old }
     ensures inputs_later { H.input_faults host.old ≤ H.input_faults host.new }
     ensures outputs_later { H.output_faults host.old ≤ H.output_faults host.new }

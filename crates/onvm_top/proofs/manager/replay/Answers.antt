@@ -59,7 +59,7 @@ returns-in_err-frames-clause-stopped g c =
       c.in-Some.ensures.found,
       c.in_ok-read_chain.ensures.ok,
       StopsAtCapture-earlier command.capture (g.H.Host.files c.args.host.now) (g.H.Host.files c.read_chain.new.host)
-          (g.H.Host.faults c.args.host.now) (g.H.Host.faults c.read_chain.new.host) (g.H.Host.faults c.read_capture.new.host)
+          (g.H.Host.input_faults c.args.host.now) (g.H.Host.input_faults c.read_chain.new.host) (g.H.Host.input_faults c.read_capture.new.host)
           c.in_err-frames.field-0.0 c.in_ok-read_chain.ensures.files c.in_ok-read_chain.ensures.later c.in_err-frames.ensures.err,
       c.in_err-frames.ensures.files ∙ c.in_ok-read_chain.ensures.files,
     ))))
@@ -69,8 +69,8 @@ returns-in_err-write_output-clause-stopped g c =
     let passed = err_from_is_err_and c.from_residual-in_err-write_output.result c.from_residual-in_err-write_output.ensures.1 in
     let command : Command = record { chain = c.in-Some.command.chain.now; out = c.in-Some.command.out.now; capture = c.in-Some.command.capture.now } in
     let files = c.in_ok-frames.ensures.files ∙ c.in_ok-read_chain.ensures.files in
-    let later : g.H.Host.faults c.args.host.now ≤ g.H.Host.faults c.read_capture.new.host =
-    omega (arith, c.in_ok-read_chain.ensures.later, c.in_ok-frames.ensures.later) in
+    let later : g.H.Host.output_faults c.args.host.now ≤ g.H.Host.output_faults c.read_capture.new.host =
+    omega (arith, c.in_ok-read_chain.ensures.outputs, c.in_ok-frames.ensures.outputs) in
     rw (passed.1, passed.2) (inr (inr (inr (
       command,
       c.in-Some.ensures.found,
@@ -78,6 +78,6 @@ returns-in_err-write_output-clause-stopped g c =
       c.in_ok-frames.frames,
       (λ told is. c.in_ok-frames.ensures.ok told (c.in_ok-read_chain.ensures.files ∙ is)),
       StopsAtOutput-earlier command.out c.in_ok-frames.frames (g.H.Host.files c.args.host.now) (g.H.Host.files c.read_capture.new.host)
-          (g.H.Host.files c.write_output.new.host) (g.H.Host.faults c.args.host.now) (g.H.Host.faults c.read_capture.new.host)
-          (g.H.Host.faults c.write_output.new.host) c.in_err-write_output.field-0.0 files later c.in_err-write_output.ensures.err,
+          (g.H.Host.files c.write_output.new.host) (g.H.Host.output_faults c.args.host.now) (g.H.Host.output_faults c.read_capture.new.host)
+          (g.H.Host.output_faults c.write_output.new.host) c.in_err-write_output.field-0.0 files later c.in_err-write_output.ensures.err,
     ))))

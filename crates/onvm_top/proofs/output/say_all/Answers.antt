@@ -5,12 +5,13 @@ use Rattle.onvm_top.proofs.output.say_all.Goals as goal
 
 pub loop-rest-preserved : goal.loop-rest-preserved
 loop-rest-preserved g c =
-    let kept = c.loop-rest.invariant in (
-      search rules,
-      search rules,
-      (
-        kept.2.0 ++ take c.in_ok-count.count c.loop-rest.rest.now,
+    let kept = c.loop-rest.invariant in record {
+      later = search rules;
+      inputs = search rules;
+      files = search rules;
+      said = (
+        kept.said.0 ++ take c.in_ok-count.count c.loop-rest.rest.now,
         grind (arith, common_steps),
-        Appends-append _ _ _ _ _ kept.2.2 c.in_ok-count.ensures.bytes,
-      ),
-    )
+        Appends-append _ _ _ _ _ kept.said.2 c.in_ok-count.ensures.bytes,
+      );
+    }
