@@ -1,0 +1,4 @@
+pub mod Contents
+pub mod Cores
+pub mod Once
+pub mod Scanned
