@@ -2,8 +2,9 @@
 ghost use Rattle.std.specs.Prelude.{◌≡◌, [], IfOk, OnErr};
 ghost use Rattle.onvm_core.specs.Layouts.{IsBuffer, IsLayout};
 ghost use Rattle.onvm_core.specs.History.{place_of as place_in};
-ghost use Rattle.onvm_core.specs.Lawful.{Allows};
+ghost use Rattle.onvm_core.specs.Lawful.{Allows, IsLawful};
 ghost use Rattle.onvm_core.specs.Machine.{IsJudged};
+ghost use Rattle.onvm_core.specs.Places.{StandsOnce};
 
 use crate::judge::{allows, is_live, part_of};
 use crate::judged::Judged;
@@ -32,7 +33,8 @@ impl Model for State {
 
     ghost view = { λ state. record { layout = state.layout; steps = reverse state.steps.items } };
 
-    ghost invariant = { λ state. IsLayout state.layout × IsLawful state.layout (reverse state.steps.items) };
+    ghost invariant = { λ state. IsLayout state.layout
+        × IsLawful state.layout (reverse state.steps.items) };
 }
 
 impl State {
@@ -50,7 +52,8 @@ impl State {
     /// Where a buffer is.
     pub fn place(&self, buf: BufId) -> Place
         requires { IsBuffer self.now.layout buf.0 }
-        ensures { result ≡ place_in buf.0 self.now.steps }
+        ensures at { result ≡ place_in buf.0 self.now.steps }
+        ensures once { StandsOnce self.now.layout self.now.steps buf.0 }
     {
         place_of(self.steps.as_slice(), buf)
     }
@@ -59,6 +62,7 @@ impl State {
 /// Makes a step, if the steps that were made allow it. A refused one takes no memory.
 pub fn apply(state: &mut State, step: Step) -> Result<Judged, NoMemory>
     ensures judged { IfOk result (IsJudged state.old step state.new) }
+    ensures lawful { IsLawful state.new.layout state.new.steps }
     ensures kept { OnErr result (state.new ≡ state.old) }
     ensures wanting { OnErr result (Allows state.old.layout state.old.steps step) }
 {

@@ -12,8 +12,8 @@ loop-at-preserved c =
     let less : c.loop-at.at < length c.args.plan.now.functions = omega (arith, c.loop-at-test.true, same) in
     record {
       filled = ap (λ fs. slice_set c.loop-at.core_of c.loop-at.at (slice_index_or fs c.loop-at.at c.index-functions-at.result).core) c.as_slice-functions.ensures
-      ∙ ap (λ cores. slice_set cores c.loop-at.at (slice_index_or c.args.plan.now.functions c.loop-at.at c.index-functions-at.result).core) c.loop-at.invariant.filled
-      ∙ fill_next (λ f. f.core) c.args.plan.now.functions c.loop-at.at MAX_FUNCTIONS c.index-functions-at.result less c.args.plan.now.kept.function_count.1;
+          ∙ ap (λ cores. slice_set cores c.loop-at.at (slice_index_or c.args.plan.now.functions c.loop-at.at c.index-functions-at.result).core) c.loop-at.invariant.filled
+          ∙ fill_next (λ f. f.core) c.args.plan.now.functions c.loop-at.at MAX_FUNCTIONS c.index-functions-at.result less c.args.plan.now.kept.function_count.1;
       within = omega (arith, less);
     }
 
@@ -23,8 +23,8 @@ returns-clause-ranges c =
     let end : c.loop-at.at ≡ length c.args.plan.now.functions = omega (arith, c.loop-at-test.false, c.loop-at.invariant.within, same) in
     let whole : c.loop-at.core_of ≡ map (λ f. f.core) c.args.plan.now.functions ++ replicate (MAX_FUNCTIONS - length c.args.plan.now.functions) 0
     = c.loop-at.invariant.filled
-      ∙ ap (λ k. map (λ f. f.core) (take k c.args.plan.now.functions) ++ replicate (MAX_FUNCTIONS - k) 0) end
-      ∙ ap (λ fs. map (λ f. f.core) fs ++ replicate (MAX_FUNCTIONS - length c.args.plan.now.functions) 0) (take-length c.args.plan.now.functions) in
+    ∙ ap (λ k. map (λ f. f.core) (take k c.args.plan.now.functions) ++ replicate (MAX_FUNCTIONS - k) 0) end
+    ∙ ap (λ fs. map (λ f. f.core) fs ++ replicate (MAX_FUNCTIONS - length c.args.plan.now.functions) 0) (take-length c.args.plan.now.functions) in
     record {
       ports = c.args.plan.now.kept.sizes_are.ports;
       transmit = c.args.plan.now.kept.sizes_are.transmit;
