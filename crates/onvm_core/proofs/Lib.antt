@@ -1,5 +1,10 @@
+pub mod Balance
 pub mod Contents
 pub mod Cores
+pub mod Falls
+pub mod Hands
+pub mod Loads
 pub mod Once
 pub mod Scanned
+pub mod Traces
 pub mod Walk

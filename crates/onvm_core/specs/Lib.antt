@@ -1,7 +1,15 @@
+pub mod Blocks
+pub mod Frames
+pub mod Handling
 pub mod History
+pub mod Journals
 pub mod Lawful
 pub mod Layouts
+pub mod Logs
 pub mod Machine
 pub mod Places
+pub mod Potential
+pub mod Receiving
 pub mod Records
+pub mod Sending
 pub mod Words

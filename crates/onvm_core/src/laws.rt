@@ -1,11 +1,21 @@
 //! What holds of every lawful list of steps.
-ghost use Rattle.std.specs.Prelude.{◌≤◌, ℕ, length};
+ghost use Rattle.std.specs.Prelude.{◌≡◌, ◌+◌, ◌<◌, ◌≤◌, ◌∷◌, ℕ, Some, None, length};
+ghost use Rattle.onvm_base.specs.declared.ids.FrameId.{FrameId};
 ghost use Rattle.onvm_base.specs.declared.ids.RingId.{RingId};
+ghost use Rattle.onvm_core.specs.declared.entry.Entry.{Entry};
 ghost use Rattle.onvm_core.specs.declared.layout.Layout.{Layout};
+ghost use Rattle.onvm_core.specs.declared.parcel.Parcel.{Parcel};
+ghost use Rattle.onvm_core.specs.declared.place.Place.TheVariants.{Pool};
+ghost use Rattle.onvm_core.specs.declared.step.Step.{Step};
 ghost use Rattle.onvm_core.specs.Layouts.{IsBuffer, IsLayout, ring_size};
-ghost use Rattle.onvm_core.specs.History.{History, content_of, popped_from, pushed_on};
+ghost use Rattle.onvm_core.specs.History.{History, content_of, place_of, popped_from, pushed_on};
 ghost use Rattle.onvm_core.specs.Lawful.{IsLawful};
-ghost use Rattle.onvm_core.specs.Places.{IsPrefixOf, StandsOnce};
+ghost use Rattle.onvm_core.specs.Places.{IsPrefixOf, StandsOnce, one_if};
+ghost use Rattle.onvm_core.specs.Logs.{IsNumbered, Setting, frame_after};
+ghost use Rattle.onvm_core.specs.Blocks.{AllOfBlocks};
+ghost use Rattle.onvm_core.specs.Frames.{AllEnded, AllInPool, buffers_with, has_begun, load, records_of};
+ghost use Rattle.onvm_core.specs.Journals.{HasShortJournals, IsTraced, Names};
+ghost use Rattle.onvm_core.specs.Potential.{potential};
 
 /// One place: at every moment each buffer is in exactly one of the pool, one ring's content, once,
 /// or one role's hands, and that is its place.
@@ -21,4 +31,41 @@ pub fn t3_2()
         → (ring : RingId) → length (content_of ring past) ≤ ring_size layout ring }
     ensures in_order { (layout : Layout) (past : History) → IsLawful layout past
         → (ring : RingId) → IsPrefixOf (popped_from ring past) (pushed_on ring past) }
+{}
+
+/// One frame, one buffer: from its take or its record on, each frame has exactly one record or is
+/// in exactly one buffer, and never both. No other frame has a record or is in a buffer, and a
+/// buffer of the pool has no frame.
+pub fn t3_3()
+    ensures one { (setting : Setting) (past : History) → IsNumbered setting
+        → IsLawful setting.layout past → AllOfBlocks setting past → (frame : FrameId)
+        → records_of frame past + buffers_with setting frame past
+        ≡ one_if (has_begun setting frame past) }
+    ensures pool { (setting : Setting) (past : History) (buf : ℕ)
+        → place_of buf past ≡ Pool → load setting buf past ≡ None }
+{}
+
+/// Trails tell journals: the crumbs of each parcel that is pushed, popped or given name entries of
+/// their functions' journals, which lead from the captured bytes to the parcel's.
+pub fn t3_4()
+    ensures { (setting : Setting) (step : Step) (before : History) (parcel : Parcel)
+        → IsLawful setting.layout (step ∷ before) → AllOfBlocks setting (step ∷ before)
+        → HasShortJournals setting (step ∷ before) → Names step.act parcel
+        → IsTraced setting (step ∷ before) parcel }
+{}
+
+/// Complete records: where every frame's block has ended and every buffer is in the pool, each
+/// frame has exactly one record.
+pub fn t3_6()
+    ensures { (setting : Setting) (past : History) → IsNumbered setting
+        → IsLawful setting.layout past → AllOfBlocks setting past → AllEnded setting past
+        → AllInPool setting past → (port number : ℕ) (e : Entry) → port < setting.layout.ports
+        → frame_after setting port number ≡ Some e → records_of e.frame past ≡ 1 }
+{}
+
+/// It ends: no step raises the potential.
+pub fn t5_1()
+    ensures { (setting : Setting) (step : Step) (before : History) → IsNumbered setting
+        → IsLawful setting.layout (step ∷ before) → AllOfBlocks setting (step ∷ before)
+        → potential setting (step ∷ before) ≤ potential setting before }
 {}
