@@ -1,4 +1,5 @@
 pub mod Blocks
+pub mod Earned
 pub mod Frames
 pub mod Handling
 pub mod History
@@ -7,9 +8,12 @@ pub mod Lawful
 pub mod Layouts
 pub mod Logs
 pub mod Machine
+pub mod Marks
+pub mod Pace
 pub mod Places
 pub mod Potential
 pub mod Receiving
 pub mod Records
+pub mod Samples
 pub mod Sending
 pub mod Words
