@@ -112,7 +112,7 @@ looked_is = (
 )
 
 first_bit : IsBitSet 18446744073709551615 0
-first_bit h = let off : 1 ≡ 0 = h in absurd (omega arith)
+first_bit h = let off : 1 ≡ 0 = h in absurd (omega (arith, off))
 
 received_is : IsLawful layout received
 received_is = (
