@@ -8,3 +8,4 @@ pub mod Once
 pub mod Scanned
 pub mod Traces
 pub mod Walk
+pub mod WalkLogs

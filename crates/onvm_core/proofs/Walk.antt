@@ -27,10 +27,10 @@ use Rattle.onvm_core.specs.Lawful.{HoldsNothing, IsLawful}
 abbrev pub layout : Layout
 layout = record { ports = 1; transmit = 1; cores = 1; functions = 1; buffers = 1024; ring = 128; output = 128; core_of = replicate 32 0 }
 
-abbrev f : FnId
+abbrev pub f : FnId
 f = record { 0 = 0 }
 
-abbrev buf : BufId
+abbrev pub buf : BufId
 buf = record { 0 = 0 }
 
 -- the frame of 16 bytes, as it enters and as it was handled
@@ -48,7 +48,7 @@ entered = record {
 abbrev pub handled : Parcel
 handled = record entered { trail = record { function = f; place = 0; verdict = Next } ∷ [] }
 
-abbrev by : ℕ → Act → Step
+abbrev pub by : ℕ → Act → Step
 by role act = record { role = role; act = act }
 
 -- the receive role is 0, the transmit role 1, the core 2, that of the first token 4
@@ -91,7 +91,7 @@ split_is = (
   ),
 )
 
-abbrev asked : History
+abbrev pub asked : History
 asked = by 0 (Look (PostWord 1) 0 None) ∷ by 0 (Look (PostWord 0) 0 None) ∷ split_all
 
 -- all 64 buffers of the part's first word are in the pool
@@ -111,7 +111,7 @@ looked_is = (
   ),
 )
 
-first_bit : IsBitSet 18446744073709551615 0
+pub first_bit : IsBitSet 18446744073709551615 0
 first_bit h = let off : 1 ≡ 0 = h in absurd (omega (arith, off))
 
 received_is : IsLawful layout received
