@@ -1,6 +1,7 @@
 pub mod Balance
 pub mod Contents
 pub mod Cores
+pub mod Crowd
 pub mod Falls
 pub mod Hands
 pub mod Loads
