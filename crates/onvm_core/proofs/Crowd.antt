@@ -29,41 +29,41 @@ use Rattle.onvm_core.proofs.WalkLogs.{no_bit}
 abbrev pub layout : Layout
 layout = record { ports = 1; transmit = 1; cores = 1; functions = 2; buffers = 3; ring = 2; output = 2; core_of = replicate 32 0 }
 
-abbrev port : PortId
+abbrev pub port : PortId
 port = record { 0 = 0 }
 
-abbrev f : FnId
+abbrev pub f : FnId
 f = record { 0 = 0 }
 
-abbrev g : FnId
+abbrev pub g : FnId
 g = record { 0 = 1 }
 
-abbrev b0 : BufId
+abbrev pub b0 : BufId
 b0 = record { 0 = 0 }
 
-abbrev b1 : BufId
+abbrev pub b1 : BufId
 b1 = record { 0 = 1 }
 
-abbrev b2 : BufId
+abbrev pub b2 : BufId
 b2 = record { 0 = 2 }
 
 -- frame number n of the port, on this chain
-abbrev frame_on : (n chain : ℕ) → Entry
+abbrev pub frame_on : (n chain : ℕ) → Entry
 frame_on n chain = record { frame = record { port = port; number = n }; stamp = record { seconds = 1; nanos = 0; tail = 0 }; packet = n ∷ []; chain = record { 0 = chain }; hash = 5 }
 
-abbrev e1 : Entry
+abbrev pub e1 : Entry
 e1 = frame_on 1 0
 
-abbrev e2 : Entry
+abbrev pub e2 : Entry
 e2 = frame_on 2 0
 
-abbrev e3 : Entry
+abbrev pub e3 : Entry
 e3 = frame_on 3 0
 
-abbrev e4 : Entry
+abbrev pub e4 : Entry
 e4 = frame_on 4 1
 
-abbrev e5 : Entry
+abbrev pub e5 : Entry
 e5 = frame_on 5 0
 
 abbrev pub setting : Setting
@@ -147,23 +147,23 @@ h24 = by 0 (Look (PostWord 1) 0 None) ∷ h23
 abbrev h25 : History
 h25 = by 0 (Look (PoolWord port 0) 0 (Some (record { frame = e5.frame; outcome = PoolEmpty }))) ∷ h24
 
-bit_7_0 : IsBitSet 7 0
+pub bit_7_0 : IsBitSet 7 0
 bit_7_0 h = let off : 1 ≡ 0 = h in absurd (omega (arith, off))
 
-bit_6_1 : IsBitSet 6 1
+pub bit_6_1 : IsBitSet 6 1
 bit_6_1 h = let off : 2 ≡ 0 = h in absurd (omega (arith, off))
 
-bit_4_2 : IsBitSet 4 2
+pub bit_4_2 : IsBitSet 4 2
 bit_4_2 h = let off : 4 ≡ 0 = h in absurd (omega (arith, off))
 
-lowest_7 : (k : ℕ) → k < 0 → ¬ IsBitSet 7 k
+pub lowest_7 : (k : ℕ) → k < 0 → ¬ IsBitSet 7 k
 lowest_7 k less = absurd (omega (arith, less))
 
-lowest_6 : (k : ℕ) → k < 1 → ¬ IsBitSet 6 k
+pub lowest_6 : (k : ℕ) → k < 1 → ¬ IsBitSet 6 k
 lowest_6 zero less h = h refl
 lowest_6 (suc k) less h = absurd (omega (arith, less))
 
-lowest_4 : (k : ℕ) → k < 2 → ¬ IsBitSet 4 k
+pub lowest_4 : (k : ℕ) → k < 2 → ¬ IsBitSet 4 k
 lowest_4 zero less h = h refl
 lowest_4 (suc zero) less h = h refl
 lowest_4 (suc (suc k)) less h = absurd (omega (arith, less))

@@ -4,6 +4,7 @@ pub mod Cores
 pub mod Crowd
 pub mod Falls
 pub mod Hands
+pub mod Held
 pub mod Loads
 pub mod Once
 pub mod Scanned
