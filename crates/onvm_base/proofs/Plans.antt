@@ -15,7 +15,7 @@ use Rattle.onvm_base.specs.declared.function.Kind.{Kind}
 use Rattle.onvm_base.specs.declared.function.Kind.TheVariants.{Forward, Filter, Tag, Route, Balance, Police, Nat, Guest}
 use Rattle.onvm_base.specs.declared.function.RouteEntry.{RouteEntry}
 use Rattle.onvm_base.specs.declared.plan.Plan.{Plan}
-use Rattle.onvm_base.specs.Plan.{AreDifferent, AreSizes, IsChainPlan, IsFunction, IsKind, IsName, IsPlan, IsRule, IsStep, Sizes, is_name_character}
+use Rattle.onvm_base.specs.Plan.{IsFrom, AreDifferent, AreSizes, IsChainPlan, IsFunction, IsKind, IsName, IsPlan, IsRule, IsStep, Sizes, is_name_character}
 use Rattle.onvm_base.specs.Services.{instances}
 
 pub one : {A : Type 0} (P : A → Type 0) (x : A) → P x → All P (x ∷ [])
@@ -151,8 +151,8 @@ pairs {A} R x y related i j f g less at_i at_j =
     subst (λ b. R f b) is_y (subst (λ a. R a y) is_x related)
 
 -- two functions, each behind a chain of its own; three buffers, rings of two
-abbrev pub narrow : Plan
-narrow = record {
+abbrev pub narrow_by : (burst : ℕ) → IsFrom 1 1024 burst → Plan
+narrow_by burst few = record {
   version = 1;
   ports = 1;
   transmit = 1;
@@ -160,7 +160,7 @@ narrow = record {
   buffers = 3;
   ring = 2;
   output = 2;
-  burst = 32;
+  burst = burst;
   high = 2;
   low = 1;
   age = 0;
@@ -179,7 +179,7 @@ narrow = record {
       buffers = (omega arith, omega arith);
       ring = (omega arith, omega arith);
       output = (omega arith, omega arith);
-      burst = (omega arith, omega arith);
+      burst = few;
       low = omega arith;
       marks = omega arith;
       high = omega arith;
@@ -200,3 +200,10 @@ narrow = record {
     default_is = omega arith;
   };
 }
+
+abbrev pub narrow : Plan
+narrow = narrow_by 32 (omega arith, omega arith)
+
+-- the same with a burst of one
+abbrev pub hasty : Plan
+hasty = narrow_by 1 (omega arith, omega arith)

@@ -33,8 +33,10 @@ use Rattle.onvm_core.specs.Handling.SawRoom.{ByLook, Since}
 use Rattle.onvm_core.specs.Blocks.{AllOfBlocks, IsOfBlocks}
 use Rattle.onvm_core.specs.Marks.{Marks, Mark, Pass, Ages, AreMarked, AllMarked, IsPaid, IsSettled, IsOwed, has_bit, is_throttled}
 use Rattle.onvm_core.specs.Marks.Mark.{Passed, Posted}
+use Rattle.onvm_core.specs.Pace.{IsPaced}
 use Rattle.onvm_core.specs.Earned.{IsEarnedThrottle, IsRaised}
 use Rattle.onvm_core.specs.Earned.IsRaised.{ByPost}
+use Rattle.onvm_base.proofs.Plans.{hasty}
 use Rattle.onvm_core.proofs.Walk.{by}
 use Rattle.onvm_core.proofs.WalkLogs.{no_bit}
 use Rattle.onvm_core.proofs.Crowd.{layout, port, f, b0, b1, e1, e2, e3, e4, setting, bit_7_0, bit_6_1, lowest_7, lowest_6}
@@ -389,6 +391,34 @@ pub whole_is_marked : AllMarked setting (λ feeder. in_time) whole
 whole_is_marked zero known = feeder_is
 whole_is_marked (suc zero) known = sender_is
 whole_is_marked (suc (suc k)) known = absurd (omega (arith, known))
+
+-- The pace: a burst is 32
+
+pub whole_is_paced : IsPaced setting 0 (log_of 0 whole)
+whole_is_paced =
+    (((λ known. omega arith), λ g. omega arith),
+    (((λ known. omega arith), λ g. omega arith),
+    (((λ known. omega arith), λ g. omega arith),
+    (((λ known. omega arith), λ g. omega arith),
+    (((λ known. omega arith), λ g. omega arith),
+    (((λ known. omega arith), λ g. omega arith),
+    (((λ known. omega arith), λ g. omega arith),
+    (((λ known. omega arith), λ g. omega arith),
+    (((λ known. omega arith), λ g. omega arith),
+    (((λ known. omega arith), λ g. omega arith),
+    (((λ known. omega arith), λ g. omega arith),
+    (((λ known. omega arith), λ g. omega arith),
+    (((λ known. omega arith), λ g. omega arith),
+    (((λ known. omega arith), λ g. omega arith),
+    (((λ known. omega arith), λ g. omega arith),
+    (((λ known. omega arith), λ g. omega arith),
+    (((λ known. omega arith), λ g. omega arith),
+    (((λ known. omega arith), λ g. omega arith),
+    tt))))))))))))))))))
+
+-- with a burst of one the second block may not begin before a marks pass
+pub not_in_haste : IsPaced (record setting { plan = hasty }) 0 (log_of 0 h8) → ⊥
+not_in_haste paced = omega (arith, paced.0.0 (omega arith))
 
 -- The held frame's throttle is earned
 
