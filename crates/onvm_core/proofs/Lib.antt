@@ -4,7 +4,10 @@ pub mod Cores
 pub mod Falls
 pub mod Hands
 pub mod Loads
+pub mod Logged
 pub mod Once
+pub mod Phases
 pub mod Scanned
+pub mod Sums
 pub mod Traces
 pub mod Walk
