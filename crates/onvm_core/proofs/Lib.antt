@@ -3,6 +3,7 @@ pub mod Contents
 pub mod Cores
 pub mod Falls
 pub mod Hands
+pub mod Holders
 pub mod Loads
 pub mod Logged
 pub mod Once
