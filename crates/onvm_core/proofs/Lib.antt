@@ -2,6 +2,7 @@ pub mod Balance
 pub mod Contents
 pub mod Cores
 pub mod Falls
+pub mod Gathered
 pub mod Hands
 pub mod Holders
 pub mod Loads
