@@ -1,12 +1,9 @@
 -- The potential of a history is that of its roles' logs.
-use Rattle.std.proofs.Common.{◌≡◌, ℕ, ◌+◌, ◌-◌, ◌*◌, ◌<◌, ◌≤◌, zero, suc, Bool, true, false, ◌⊎◌, inl, inr, List, [], ◌∷◌, length, refl, sym, ◌∙◌, ap, subst, arith, Option, Some, None}
-use Rattle.std.specs.Prelude.{if◌then◌else◌, ◌==◌, ◌&&◌, nat_lt, slice_get}
+use Rattle.std.proofs.Common.{◌≡◌, ℕ, ◌+◌, ◌-◌, ◌*◌, ◌<◌, ◌≤◌, inl, inr, [], ◌∷◌, length, refl, sym, ◌∙◌, ap, subst, arith, Option, Some, None}
+use Rattle.std.specs.Prelude.{◌==◌, ◌&&◌}
 use Rattle.std.proofs.lemmas.Bool.{cases_Bool, lt-ltb, le-ltb}
-use Rattle.onvm_base.specs.declared.ids.FnId.{FnId}
-use Rattle.onvm_base.specs.declared.ids.RingId.{RingId}
 use Rattle.onvm_base.specs.declared.ids.RingId.TheVariants.{Lane, Output, Mail}
 use Rattle.onvm_base.specs.declared.outcome.Record.{Record}
-use Rattle.onvm_core.specs.declared.entry.Entry.{Entry}
 use Rattle.onvm_core.specs.declared.layout.Word.TheVariants.{Pool as PoolWord, Cell, Post as PostWord, Weight}
 use Rattle.onvm_core.specs.declared.step.Act.{Act}
 use Rattle.onvm_core.specs.declared.step.Act.TheVariants.{Split, Join, Take, Give, Push, Full, Pop, Empty, Look, Post}
@@ -15,13 +12,13 @@ use Rattle.onvm_core.specs.declared.place.Place.TheVariants.{Pool, Ring, Role}
 use Rattle.onvm_core.specs.History.{History, place_of}
 use Rattle.onvm_core.specs.Lawful.{IsLawful}
 use Rattle.onvm_core.specs.Places.{same_place}
-use Rattle.onvm_core.specs.Logs.{Setting, Log, feeders, frame_after, log_of, of_port}
-use Rattle.onvm_core.specs.Receiving.{ReceivePhase, asked, sought, receive_after, receive_phase, done_in, IsBetween, IsMark, MayReceive, MayReceiveFor}
+use Rattle.onvm_core.specs.Logs.{Setting, Log, feeders, log_of, of_port}
+use Rattle.onvm_core.specs.Receiving.{ReceivePhase, asked, sought, receive_after, receive_phase, done_in, IsBetween, IsMark}
 use Rattle.onvm_core.specs.Receiving.ReceivePhase.{Between, Asks, Seeks, Sees, Took, Barred}
 use Rattle.onvm_core.specs.Blocks.{Kind, kind_of, AllOfBlocks}
 use Rattle.onvm_core.specs.Blocks.Kind.{Receives, Sends, Handles, Ticks, Leads}
-use Rattle.onvm_core.specs.Frames.{load, begun_in}
-use Rattle.onvm_core.specs.Potential.{sum_below, weight, waiting, potential, outside, ring_weight, function_weight, hand_weight, potential_of_logs}
+use Rattle.onvm_core.specs.Frames.{begun_in}
+use Rattle.onvm_core.specs.Potential.{sum_below, waiting, potential, outside, ring_weight, function_weight, hand_weight, potential_of_logs}
 use Rattle.onvm_core.proofs.Loads.{pool_load}
 use Rattle.onvm_core.proofs.Hands.{IsKind, is_kind}
 use Rattle.onvm_core.proofs.Balance.{kind_receives, kind_other, within_of}

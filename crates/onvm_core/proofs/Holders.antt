@@ -1,6 +1,6 @@
 -- Which buffer a role has by its own log, and what it weighs.
-use Rattle.std.proofs.Common.{◌≡◌, ℕ, ◌+◌, ◌-◌, ◌*◌, ◌<◌, ◌≤◌, zero, suc, Bool, true, false, ◌⊎◌, inl, inr, List, [], ◌∷◌, length, refl, sym, ◌∙◌, ap, subst, arith, Option, Some, None}
-use Rattle.std.specs.Prelude.{if◌then◌else◌, ◌==◌, ◌&&◌, nat_lt, not, unwrap_or}
+use Rattle.std.proofs.Common.{◌≡◌, ℕ, ◌+◌, ◌*◌, ◌<◌, ◌≤◌, Bool, true, false, inl, inr, [], ◌∷◌, refl, sym, ◌∙◌, ap, subst, arith, Option, Some, None}
+use Rattle.std.specs.Prelude.{◌==◌, nat_lt, unwrap_or}
 use Rattle.std.proofs.lemmas.Bool.{cases_Bool, eqb-true, eqb-false, eq-eqb, le-ltb, ltb-true, ltb-false}
 use Rattle.onvm_base.specs.declared.ids.RingId.{RingId}
 use Rattle.onvm_base.specs.declared.ids.RingId.TheVariants.{Lane, Output, Mail}
@@ -11,12 +11,11 @@ use Rattle.onvm_core.specs.declared.parcel.Parcel.{Parcel}
 use Rattle.onvm_core.specs.declared.step.Item.TheVariants.{Buffer, Number}
 use Rattle.onvm_core.specs.declared.step.Act.{Act}
 use Rattle.onvm_core.specs.declared.step.Act.TheVariants.{Split, Join, Take, Give, Push, Full, Pop, Empty, Look, Post}
-use Rattle.onvm_core.specs.declared.step.Step.{Step}
 use Rattle.onvm_core.specs.declared.place.Place.{Place}
 use Rattle.onvm_core.specs.declared.place.Place.TheVariants.{Pool, Ring, Role}
 use Rattle.onvm_core.specs.Layouts.{IsBuffer}
 use Rattle.onvm_core.specs.History.{History, place_of, puts}
-use Rattle.onvm_core.specs.Lawful.{AllowsAct, Allows, IsLawful, Suits, Holds}
+use Rattle.onvm_core.specs.Lawful.{AllowsAct, IsLawful, Suits}
 use Rattle.onvm_core.specs.Places.{same_place}
 use Rattle.onvm_core.specs.Logs.{Setting, Log, Hand, log_of}
 use Rattle.onvm_core.specs.Receiving.{ReceivePhase, receive_phase}
@@ -26,12 +25,12 @@ use Rattle.onvm_core.specs.Sending.{SendPhase, send_phase}
 use Rattle.onvm_core.specs.Sending.SendPhase.{Free, Moves as Sending, TurnsBack}
 use Rattle.onvm_core.specs.Blocks.{Kind, kind_of, IsOfBlocks, AllOfBlocks}
 use Rattle.onvm_core.specs.Blocks.Kind.{Receives, Sends, Handles, Ticks, Leads}
-use Rattle.onvm_core.specs.Frames.{Load, load, block_frame}
+use Rattle.onvm_core.specs.Frames.{Load, block_frame}
 use Rattle.onvm_core.specs.Frames.Load.{Fresh, Loaded}
 use Rattle.onvm_core.specs.Potential.{sum_below, weight, is_sender, core_weight, send_weight, hand_weight}
 use Rattle.onvm_core.proofs.Once.{same_place_is}
 use Rattle.onvm_core.proofs.Loads.{own_load, own_load_after, own_load_is, some_pair, HasLoad}
-use Rattle.onvm_core.proofs.Hands.{IsKind, is_kind}
+use Rattle.onvm_core.proofs.Hands.{is_kind}
 use Rattle.onvm_core.proofs.Balance.{blocks_before}
 use Rattle.onvm_core.proofs.Sums.{pick, sum_same, sum_none, sum_pick}
 use Rattle.onvm_core.proofs.Logged.{Known, place_known, heft}

@@ -1,6 +1,6 @@
 -- What a ring has by the logs of its two ends, and what its content weighs.
-use Rattle.std.proofs.Common.{◌≡◌, ℕ, ◌+◌, ◌*◌, ◌<◌, zero, suc, Bool, true, false, ◌⊎◌, inl, inr, List, [], ◌∷◌, ◌++◌, length, drop, refl, sym, ◌∙◌, ap, subst, arith, Option, Some, None}
-use Rattle.std.specs.Prelude.{if◌then◌else◌, ◌==◌, unwrap_or}
+use Rattle.std.proofs.Common.{◌≡◌, ℕ, ◌+◌, ◌*◌, ◌<◌, Bool, true, false, inl, inr, List, [], ◌∷◌, ◌++◌, length, drop, refl, sym, ◌∙◌, ap, subst, arith}
+use Rattle.std.specs.Prelude.{◌==◌, unwrap_or}
 use Rattle.std.proofs.lemmas.Bool.{cases_Bool, eqb-true, eqb-false}
 use Rattle.std.proofs.lemmas.List.{append-nil}
 use Rattle.onvm_base.specs.declared.ids.RingId.{RingId}
@@ -12,17 +12,15 @@ use Rattle.onvm_core.specs.declared.step.Item.{Item}
 use Rattle.onvm_core.specs.declared.step.Item.TheVariants.{Buffer, Number}
 use Rattle.onvm_core.specs.declared.step.Act.{Act}
 use Rattle.onvm_core.specs.declared.step.Act.TheVariants.{Split, Join, Take, Give, Push, Full, Pop, Empty, Look, Post}
-use Rattle.onvm_core.specs.declared.step.Step.{Step}
 use Rattle.onvm_core.specs.declared.place.Place.{Place}
 use Rattle.onvm_core.specs.declared.place.Place.TheVariants.{Pool, Ring, Role}
-use Rattle.onvm_core.specs.Layouts.{same_ring, producer, consumer, IsBuffer, IsRing, IsFeeder}
+use Rattle.onvm_core.specs.Layouts.{same_ring, producer, consumer, IsBuffer, IsRing}
 use Rattle.onvm_core.specs.History.{History, pushes, pops, pushed_on, popped_from, content_of, place_of, puts}
-use Rattle.onvm_core.specs.Lawful.{AllowsAct, Allows, IsLawful, Suits, Holds}
-use Rattle.onvm_core.specs.Places.{is_buffer, how_many, one_if, same_place, once_at}
-use Rattle.onvm_core.specs.Logs.{Setting, Log, log_of}
-use Rattle.onvm_core.specs.Frames.{Load, load}
-use Rattle.onvm_core.specs.Frames.Load.{Fresh, Loaded}
-use Rattle.onvm_core.specs.Potential.{sum_below, hops_left, weight, weight_at, pushed_in, popped_in, content_in, item_weight, weight_of, ring_weight}
+use Rattle.onvm_core.specs.Lawful.{AllowsAct, IsLawful, Suits}
+use Rattle.onvm_core.specs.Places.{is_buffer, how_many, one_if, same_place}
+use Rattle.onvm_core.specs.Logs.{Setting, log_of}
+use Rattle.onvm_core.specs.Frames.{load}
+use Rattle.onvm_core.specs.Potential.{sum_below, hops_left, weight, weight_at, pushed_in, popped_in, content_in, weight_of, ring_weight}
 use Rattle.onvm_core.proofs.Contents.{same_ring_is}
 use Rattle.onvm_core.proofs.Once.{in_ring_once}
 use Rattle.onvm_core.proofs.Loads.{Each, Each_map, Each_both, IsAt, IsLoaded, content_at, content_loaded, first_of}
