@@ -26,7 +26,7 @@ use Rattle.onvm_core.proofs.Sums.{pick, sum_same, sum_zero, sum_none, sum_plus, 
 use Rattle.onvm_core.proofs.Logged.{Known, place_known, heft, ring_weighs}
 use Rattle.onvm_core.proofs.Holders.{taken_weight, taken_by, role_weighs, holder_below}
 
--- A number stands once among the places of so many functions' lanes and output rings and so many roles
+-- What is in a ring or in a role's hands is in just one of them: its weight, summed over all of them, is its weight
 
 abbrev in_rings : (functions lanes : ℕ) → Place → ℕ → ℕ
 in_rings functions lanes there w =
@@ -55,12 +55,12 @@ in_output functions lanes g w known =
     sum_same (λ f. sum_below (λ feeder. 0) lanes + pick (g == f) w) (λ f. pick (g == f) w) functions (λ f below. omega (arith, sum_zero lanes))
     ∙ sum_pick (λ f. w) g functions known
 
-stands_once : (functions lanes roles : ℕ) (there : Place) (w : ℕ) → Stands functions lanes roles there w → w ≡ in_rings functions lanes there w + in_roles roles there w
-stands_once functions lanes roles Pool w stands = omega (arith, stands, no_rings functions lanes, sum_zero roles)
-stands_once functions lanes roles (Ring (Lane f feeder)) w stands = omega (arith, in_lane functions lanes f.0 feeder w stands.0 stands.1, sum_zero roles)
-stands_once functions lanes roles (Ring (Output f)) w stands = omega (arith, in_output functions lanes f.0 w stands, sum_zero roles)
-stands_once functions lanes roles (Ring (Mail f)) w stands = absurd stands
-stands_once functions lanes roles (Role role) w stands = omega (arith, no_rings functions lanes, sum_pick (λ k. w) role roles stands)
+in_one_place : (functions lanes roles : ℕ) (there : Place) (w : ℕ) → Stands functions lanes roles there w → w ≡ in_rings functions lanes there w + in_roles roles there w
+in_one_place functions lanes roles Pool w stands = omega (arith, stands, no_rings functions lanes, sum_zero roles)
+in_one_place functions lanes roles (Ring (Lane f feeder)) w stands = omega (arith, in_lane functions lanes f.0 feeder w stands.0 stands.1, sum_zero roles)
+in_one_place functions lanes roles (Ring (Output f)) w stands = omega (arith, in_output functions lanes f.0 w stands, sum_zero roles)
+in_one_place functions lanes roles (Ring (Mail f)) w stands = absurd stands
+in_one_place functions lanes roles (Role role) w stands = omega (arith, no_rings functions lanes, sum_pick (λ k. w) role roles stands)
 
 stands_of : (setting : Setting) (past : History) (buf : ℕ) (there : Place) → IsLawful setting.layout past → AllOfBlocks setting past → place_of buf past ≡ there → Stands setting.layout.functions (feeders setting) (setting.layout.ports + setting.layout.transmit + setting.layout.cores) there (heft setting past buf)
 stands_of setting past buf Pool lawful blocks at = rw (pool_load setting past buf at) refl
@@ -77,7 +77,7 @@ by_place : (setting : Setting) (past : History) → IsLawful setting.layout past
     + sum_below (λ role. sum_below (λ buf. pick (same_place (place_of buf past) (Role role)) (heft setting past buf)) (setting.layout.ports * setting.layout.buffers)) (setting.layout.ports + setting.layout.transmit + setting.layout.cores)
 by_place setting past lawful blocks =
     sum_same (heft setting past) (λ buf. in_rings setting.layout.functions (feeders setting) (place_of buf past) (heft setting past buf) + in_roles (setting.layout.ports + setting.layout.transmit + setting.layout.cores) (place_of buf past) (heft setting past buf)) (setting.layout.ports * setting.layout.buffers)
-    (λ buf less. stands_once setting.layout.functions (feeders setting) (setting.layout.ports + setting.layout.transmit + setting.layout.cores) (place_of buf past) (heft setting past buf) (stands_of setting past buf (place_of buf past) lawful blocks refl))
+    (λ buf less. in_one_place setting.layout.functions (feeders setting) (setting.layout.ports + setting.layout.transmit + setting.layout.cores) (place_of buf past) (heft setting past buf) (stands_of setting past buf (place_of buf past) lawful blocks refl))
     ∙ sum_regroup (λ f feeder buf. pick (same_place (place_of buf past) (Ring (Lane (record { 0 = f }) feeder))) (heft setting past buf))
     (λ f buf. pick (same_place (place_of buf past) (Ring (Output (record { 0 = f })))) (heft setting past buf))
     (λ role buf. pick (same_place (place_of buf past) (Role role)) (heft setting past buf))

@@ -179,6 +179,7 @@ items_weigh g layout ring n (Number m ∷ items) each =
     let same : sum_below (items_at g (Number m ∷ items)) n ≡ sum_below (items_at g items) n = sum_same (items_at g (Number m ∷ items)) (items_at g items) n (λ k less. omega arith) in
     omega (arith, same, items_weigh g layout ring n items each.1)
 
+-- what a buffer weighs where it is
 abbrev pub heft : Setting → History → ℕ → ℕ
 heft setting past buf = weight setting.layout (place_of buf past) (load setting buf past)
 

@@ -63,7 +63,7 @@ pub sum_more : (f g h : ℕ → ℕ) (n : ℕ) → ((k : ℕ) → k < n → 66 *
 sum_more f g h zero all = omega arith
 sum_more f g h (suc n) all = omega (arith, all n (omega arith), sum_more f g h n (λ k less. all k (omega arith)))
 
--- three ways to group, each a sum over what is summed
+-- a sum of terms that are each spread over a table and a row: by the cells of the table and of the row
 pub sum_regroup : (a : ℕ → ℕ → ℕ → ℕ) (b c : ℕ → ℕ → ℕ) (l m r n : ℕ)
     → sum_below (λ k. sum_below (λ i. sum_below (λ j. a i j k) m + b i k) l + sum_below (λ i. c i k) r) n
     ≡ sum_below (λ i. sum_below (λ j. sum_below (λ k. a i j k) n) m + sum_below (λ k. b i k) n) l + sum_below (λ i. sum_below (λ k. c i k) n) r
