@@ -3,11 +3,16 @@ pub mod Contents
 pub mod Cores
 pub mod Crowd
 pub mod Falls
+pub mod Gathered
 pub mod Hands
 pub mod Held
+pub mod Holders
 pub mod Loads
+pub mod Logged
 pub mod Once
+pub mod Phases
 pub mod Scanned
+pub mod Sums
 pub mod Traces
 pub mod Walk
 pub mod WalkLogs

@@ -11,11 +11,11 @@ ghost use Rattle.onvm_core.specs.Layouts.{IsBuffer, IsLayout, ring_size};
 ghost use Rattle.onvm_core.specs.History.{History, content_of, place_of, popped_from, pushed_on};
 ghost use Rattle.onvm_core.specs.Lawful.{IsLawful};
 ghost use Rattle.onvm_core.specs.Places.{IsPrefixOf, StandsOnce, one_if};
-ghost use Rattle.onvm_core.specs.Logs.{IsNumbered, Setting, frame_after};
+ghost use Rattle.onvm_core.specs.Logs.{IsNumbered, Setting, frame_after, log_of};
 ghost use Rattle.onvm_core.specs.Blocks.{AllOfBlocks};
 ghost use Rattle.onvm_core.specs.Frames.{AllEnded, AllInPool, buffers_with, has_begun, load, records_of};
 ghost use Rattle.onvm_core.specs.Journals.{HasShortJournals, IsTraced, Names};
-ghost use Rattle.onvm_core.specs.Potential.{potential};
+ghost use Rattle.onvm_core.specs.Potential.{potential, potential_of_logs};
 
 /// One place: at every moment each buffer is in exactly one of the pool, one ring's content, once,
 /// or one role's hands, and that is its place.
@@ -63,9 +63,12 @@ pub fn t3_6()
         → frame_after setting port number ≡ Some e → records_of e.frame past ≡ 1 }
 {}
 
-/// It ends: no step raises the potential.
+/// It ends: no step raises the potential. It can be told from the roles' logs alone.
 pub fn t5_1()
-    ensures { (setting : Setting) (step : Step) (before : History) → IsNumbered setting
+    ensures falls { (setting : Setting) (step : Step) (before : History) → IsNumbered setting
         → IsLawful setting.layout (step ∷ before) → AllOfBlocks setting (step ∷ before)
         → potential setting (step ∷ before) ≤ potential setting before }
+    ensures from_logs { (setting : Setting) (past : History) → IsLawful setting.layout past
+        → AllOfBlocks setting past
+        → potential setting past ≡ potential_of_logs setting (λ role. log_of role past) }
 {}
