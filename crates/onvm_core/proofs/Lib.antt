@@ -1,6 +1,7 @@
 pub mod Balance
 pub mod Contents
 pub mod Cores
+pub mod Counted
 pub mod Falls
 pub mod Hands
 pub mod Loads

@@ -1,5 +1,6 @@
 //! What holds of every lawful list of steps.
-ghost use Rattle.std.specs.Prelude.{◌≡◌, ◌+◌, ◌<◌, ◌≤◌, ◌∷◌, ℕ, Some, None, length};
+ghost use Rattle.std.specs.Prelude.{◌≡◌, ◌+◌, ◌<◌, ◌≤◌, ◌∷◌, [], ℕ, Some, None, length};
+ghost use Rattle.onvm_base.specs.declared.ids.FnId.{FnId};
 ghost use Rattle.onvm_base.specs.declared.ids.FrameId.{FrameId};
 ghost use Rattle.onvm_base.specs.declared.ids.RingId.{RingId};
 ghost use Rattle.onvm_core.specs.declared.entry.Entry.{Entry};
@@ -7,15 +8,16 @@ ghost use Rattle.onvm_core.specs.declared.layout.Layout.{Layout};
 ghost use Rattle.onvm_core.specs.declared.parcel.Parcel.{Parcel};
 ghost use Rattle.onvm_core.specs.declared.place.Place.TheVariants.{Pool};
 ghost use Rattle.onvm_core.specs.declared.step.Step.{Step};
-ghost use Rattle.onvm_core.specs.Layouts.{IsBuffer, IsLayout, ring_size};
+ghost use Rattle.onvm_core.specs.Layouts.{IsBuffer, IsLayout, core_role, ring_size};
 ghost use Rattle.onvm_core.specs.History.{History, content_of, place_of, popped_from, pushed_on};
 ghost use Rattle.onvm_core.specs.Lawful.{IsLawful};
 ghost use Rattle.onvm_core.specs.Places.{IsPrefixOf, StandsOnce, one_if};
-ghost use Rattle.onvm_core.specs.Logs.{IsNumbered, Setting, frame_after};
-ghost use Rattle.onvm_core.specs.Blocks.{AllOfBlocks};
+ghost use Rattle.onvm_core.specs.Logs.{IsNumbered, Setting, frame_after, log_of};
+ghost use Rattle.onvm_core.specs.Blocks.{AllOfBlocks, IsOfBlocks};
 ghost use Rattle.onvm_core.specs.Frames.{AllEnded, AllInPool, buffers_with, has_begun, load, records_of};
-ghost use Rattle.onvm_core.specs.Journals.{HasShortJournals, IsTraced, Names};
+ghost use Rattle.onvm_core.specs.Journals.{HasShortJournals, IsTraced, Names, journal_of};
 ghost use Rattle.onvm_core.specs.Potential.{potential};
+ghost use Rattle.onvm_core.specs.Samples.{AreSamples, handled_since, lost_count, mailed_count};
 
 /// One place: at every moment each buffer is in exactly one of the pool, one ring's content, once,
 /// or one role's hands, and that is its place.
@@ -68,4 +70,18 @@ pub fn t5_1()
     ensures { (setting : Setting) (step : Step) (before : History) → IsNumbered setting
         → IsLawful setting.layout (step ∷ before) → AllOfBlocks setting (step ∷ before)
         → potential setting (step ∷ before) ≤ potential setting before }
+{}
+
+/// Samples: where each number that a core mails counts what its function handled since its last
+/// sample, mailed or lost, all counts and what was handled since make up the function's journal.
+/// So no handled frame is counted twice.
+pub fn t3_7()
+    ensures counted { (setting : Setting) (past : History) (f : FnId) → IsLayout setting.layout
+        → f.0 < setting.layout.functions
+        → IsOfBlocks setting (core_role setting.layout f.0) (log_of (core_role setting.layout f.0) past)
+        → AreSamples (log_of (core_role setting.layout f.0) past)
+        → mailed_count f (log_of (core_role setting.layout f.0) past)
+        + lost_count f (log_of (core_role setting.layout f.0) past)
+        + handled_since f (log_of (core_role setting.layout f.0) past)
+        ≡ length (journal_of setting past f) }
 {}
