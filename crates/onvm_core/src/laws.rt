@@ -2,12 +2,18 @@
 ghost use Rattle.std.specs.Prelude.{◌≡◌, ◌+◌, ◌<◌, ◌≤◌, ◌∷◌, [], ℕ, Some, None, length};
 ghost use Rattle.onvm_base.specs.declared.ids.FnId.{FnId};
 ghost use Rattle.onvm_base.specs.declared.ids.FrameId.{FrameId};
+ghost use Rattle.onvm_base.specs.declared.ids.BufId.{BufId};
 ghost use Rattle.onvm_base.specs.declared.ids.RingId.{RingId};
+ghost use Rattle.onvm_base.specs.declared.outcome.Outcome.TheVariants.{PoolEmpty, RingFull, Sent};
+ghost use Rattle.onvm_base.specs.declared.outcome.Record.{Record};
 ghost use Rattle.onvm_core.specs.declared.entry.Entry.{Entry};
 ghost use Rattle.onvm_core.specs.declared.layout.Layout.{Layout};
 ghost use Rattle.onvm_core.specs.declared.parcel.Parcel.{Parcel};
 ghost use Rattle.onvm_core.specs.declared.place.Place.TheVariants.{Pool};
+ghost use Rattle.onvm_core.specs.declared.step.Act.TheVariants.{Give};
 ghost use Rattle.onvm_core.specs.declared.step.Step.{Step};
+ghost use Rattle.onvm_core.specs.Earned.{IsEarnedEmpty, IsEarnedFull, IsSent};
+ghost use Rattle.onvm_core.specs.Records.{recorded};
 ghost use Rattle.onvm_core.specs.Layouts.{IsBuffer, IsLayout, core_role, ring_size};
 ghost use Rattle.onvm_core.specs.History.{History, content_of, place_of, popped_from, pushed_on};
 ghost use Rattle.onvm_core.specs.Lawful.{IsLawful};
@@ -70,6 +76,22 @@ pub fn t5_1()
     ensures { (setting : Setting) (step : Step) (before : History) → IsNumbered setting
         → IsLawful setting.layout (step ∷ before) → AllOfBlocks setting (step ∷ before)
         → potential setting (step ∷ before) ≤ potential setting before }
+{}
+
+/// Each cause is true: a full ring was found full directly before, an empty pool showed no buffer
+/// in any word of its part, and each send is the move's.
+pub fn t3_5()
+    ensures ring_full { (setting : Setting) (step : Step) (before : History) (told : Record)
+        (ring : RingId) → AllOfBlocks setting (step ∷ before) → recorded step.act ≡ told ∷ []
+        → told.outcome ≡ RingFull ring → IsEarnedFull (log_of step.role before) ring }
+    ensures pool_empty { (setting : Setting) (step : Step) (before : History) (told : Record)
+        → AllOfBlocks setting (step ∷ before) → recorded step.act ≡ told ∷ []
+        → told.outcome ≡ PoolEmpty
+        → IsEarnedEmpty setting step.role (log_of step.role before) step.act
+        × (told.frame.port.0 ≡ step.role) }
+    ensures sent { (setting : Setting) (step : Step) (before : History) (b : BufId) (q : ℕ)
+        (parcel : Parcel) → AllOfBlocks setting (step ∷ before)
+        → step.act ≡ Give b (Sent q) parcel → IsSent setting parcel q }
 {}
 
 /// Samples: where each number that a core mails counts what its function handled since its last
