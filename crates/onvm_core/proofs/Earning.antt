@@ -333,7 +333,7 @@ give_gives setting role Ticks log b outcome parcel may = absurd may
 give_gives setting role Leads log b outcome parcel may = absurd may
 
 -- the log of the acting role, with the step's act
-acting : (setting : Setting) (step : Step) (before : History) (act : Act) → step.act ≡ act → AllOfBlocks setting (step ∷ before) → IsKind setting step.role (kind_of setting.layout step.role) (act ∷ log_of step.role before)
+pub acting : (setting : Setting) (step : Step) (before : History) (act : Act) → step.act ≡ act → AllOfBlocks setting (step ∷ before) → IsKind setting step.role (kind_of setting.layout step.role) (act ∷ log_of step.role before)
 acting setting step before act acts blocks =
     let log : Log = log_of step.role before in
     let own : IsOfBlocks setting step.role (act ∷ log) = subst (λ (a : Act). IsOfBlocks setting step.role (a ∷ log)) acts (own_blocks setting step before blocks) in

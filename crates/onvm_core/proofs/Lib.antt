@@ -2,6 +2,7 @@ pub mod Balance
 pub mod Contents
 pub mod Cores
 pub mod Counted
+pub mod Dropping
 pub mod Earning
 pub mod Falls
 pub mod Hands

@@ -4,15 +4,16 @@ ghost use Rattle.onvm_base.specs.declared.ids.FnId.{FnId};
 ghost use Rattle.onvm_base.specs.declared.ids.FrameId.{FrameId};
 ghost use Rattle.onvm_base.specs.declared.ids.BufId.{BufId};
 ghost use Rattle.onvm_base.specs.declared.ids.RingId.{RingId};
-ghost use Rattle.onvm_base.specs.declared.outcome.Outcome.TheVariants.{PoolEmpty, RingFull, Sent};
+ghost use Rattle.onvm_base.specs.declared.outcome.Outcome.TheVariants.{Dropped, PoolEmpty, RingFull, Sent};
 ghost use Rattle.onvm_base.specs.declared.outcome.Record.{Record};
+ghost use Rattle.onvm_base.specs.declared.outcome.Why.{Why};
 ghost use Rattle.onvm_core.specs.declared.entry.Entry.{Entry};
 ghost use Rattle.onvm_core.specs.declared.layout.Layout.{Layout};
 ghost use Rattle.onvm_core.specs.declared.parcel.Parcel.{Parcel};
 ghost use Rattle.onvm_core.specs.declared.place.Place.TheVariants.{Pool};
 ghost use Rattle.onvm_core.specs.declared.step.Act.TheVariants.{Give};
 ghost use Rattle.onvm_core.specs.declared.step.Step.{Step};
-ghost use Rattle.onvm_core.specs.Earned.{IsEarnedEmpty, IsEarnedFull, IsSent};
+ghost use Rattle.onvm_core.specs.Earned.{IsDropped, IsEarnedEmpty, IsEarnedFull, IsSent};
 ghost use Rattle.onvm_core.specs.Records.{recorded};
 ghost use Rattle.onvm_core.specs.Layouts.{IsBuffer, IsLayout, core_role, ring_size};
 ghost use Rattle.onvm_core.specs.History.{History, content_of, place_of, popped_from, pushed_on};
@@ -79,7 +80,7 @@ pub fn t5_1()
 {}
 
 /// Each cause is true: a full ring was found full directly before, an empty pool showed no buffer
-/// in any word of its part, and each send is the move's.
+/// in any word of its part, and each drop and send is the move's.
 pub fn t3_5()
     ensures ring_full { (setting : Setting) (step : Step) (before : History) (told : Record)
         (ring : RingId) → AllOfBlocks setting (step ∷ before) → recorded step.act ≡ told ∷ []
@@ -89,6 +90,10 @@ pub fn t3_5()
         → told.outcome ≡ PoolEmpty
         → IsEarnedEmpty setting step.role (log_of step.role before) step.act
         × (told.frame.port.0 ≡ step.role) }
+    ensures dropped { (setting : Setting) (step : Step) (before : History) (b : BufId) (f : FnId)
+        (why : Why) (parcel : Parcel) → IsLawful setting.layout before
+        → AllOfBlocks setting (step ∷ before) → step.act ≡ Give b (Dropped f why) parcel
+        → IsDropped setting parcel f why }
     ensures sent { (setting : Setting) (step : Step) (before : History) (b : BufId) (q : ℕ)
         (parcel : Parcel) → AllOfBlocks setting (step ∷ before)
         → step.act ≡ Give b (Sent q) parcel → IsSent setting parcel q }
