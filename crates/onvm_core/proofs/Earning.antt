@@ -372,7 +372,7 @@ not_throttled_full told k n f ring one two = let off : ◌≡◌ {A = Outcome} (
 not_empty_full : (told : Record) (ring : RingId) → told.outcome ≡ PoolEmpty → told.outcome ≡ RingFull ring → ⊥
 not_empty_full told ring one two = let off : ◌≡◌ {A = Outcome} PoolEmpty (RingFull ring) = sym one ∙ two in cc
 
-not_throttled_empty : (told : Record) (k n : ℕ) (f : FnId) → told.outcome ≡ Throttled k n f → told.outcome ≡ PoolEmpty → ⊥
+pub not_throttled_empty : (told : Record) (k n : ℕ) (f : FnId) → told.outcome ≡ Throttled k n f → told.outcome ≡ PoolEmpty → ⊥
 not_throttled_empty told k n f one two = let off : ◌≡◌ {A = Outcome} (Throttled k n f) PoolEmpty = sym one ∙ two in cc
 
 -- each overflow of a ring is earned

@@ -7,7 +7,9 @@ pub mod Earning
 pub mod Falls
 pub mod Hands
 pub mod Loads
+pub mod Marked
 pub mod Once
 pub mod Scanned
+pub mod Throttling
 pub mod Traces
 pub mod Walk

@@ -4,18 +4,21 @@ ghost use Rattle.onvm_base.specs.declared.ids.FnId.{FnId};
 ghost use Rattle.onvm_base.specs.declared.ids.FrameId.{FrameId};
 ghost use Rattle.onvm_base.specs.declared.ids.BufId.{BufId};
 ghost use Rattle.onvm_base.specs.declared.ids.RingId.{RingId};
-ghost use Rattle.onvm_base.specs.declared.outcome.Outcome.TheVariants.{Dropped, PoolEmpty, RingFull, Sent};
+ghost use Rattle.onvm_base.specs.declared.outcome.Outcome.TheVariants.{Dropped, PoolEmpty, RingFull, Sent, Throttled};
 ghost use Rattle.onvm_base.specs.declared.outcome.Record.{Record};
 ghost use Rattle.onvm_base.specs.declared.outcome.Why.{Why};
 ghost use Rattle.onvm_core.specs.declared.entry.Entry.{Entry};
 ghost use Rattle.onvm_core.specs.declared.layout.Layout.{Layout};
+ghost use Rattle.onvm_core.specs.declared.layout.Word.TheVariants.{Post as PostWord};
 ghost use Rattle.onvm_core.specs.declared.parcel.Parcel.{Parcel};
 ghost use Rattle.onvm_core.specs.declared.place.Place.TheVariants.{Pool};
-ghost use Rattle.onvm_core.specs.declared.step.Act.TheVariants.{Give};
+ghost use Rattle.onvm_core.specs.declared.step.Act.TheVariants.{Give, Look};
 ghost use Rattle.onvm_core.specs.declared.step.Step.{Step};
-ghost use Rattle.onvm_core.specs.Earned.{IsDropped, IsEarnedEmpty, IsEarnedFull, IsSent};
+ghost use Rattle.onvm_core.specs.Earned.{Clears, ClearsAtOnce, IsDropped, IsEarnedEmpty, IsEarnedFull, IsEarnedThrottle, IsSent};
+ghost use Rattle.onvm_core.specs.Marks.{Ages, AllMarked, standing};
+ghost use Rattle.onvm_core.specs.Words.{value_of};
 ghost use Rattle.onvm_core.specs.Records.{recorded};
-ghost use Rattle.onvm_core.specs.Layouts.{IsBuffer, IsLayout, core_role, ring_size};
+ghost use Rattle.onvm_core.specs.Layouts.{IsBuffer, IsFeeder, IsLayout, core_role, ring_size};
 ghost use Rattle.onvm_core.specs.History.{History, content_of, place_of, popped_from, pushed_on};
 ghost use Rattle.onvm_core.specs.Lawful.{IsLawful};
 ghost use Rattle.onvm_core.specs.Places.{IsPrefixOf, StandsOnce, one_if};
@@ -79,9 +82,27 @@ pub fn t5_1()
         → potential setting (step ∷ before) ≤ potential setting before }
 {}
 
-/// Each cause is true: a full ring was found full directly before, an empty pool showed no buffer
-/// in any word of its part, and each drop and send is the move's.
+/// Each cause is true: a frame was throttled by a look at the word of a feeder whose mark was
+/// raised by a pass that found high and low, and not cleared; each mark is cleared at once by the
+/// pass that doesn't find low; a full ring was found full directly before, an empty pool showed no
+/// buffer in any word of its part, and each drop and send is the move's.
 pub fn t3_5()
+    ensures throttled { (setting : Setting) (aged : ℕ → Ages) (step : Step) (before : History)
+        (told : Record) (feeder post : ℕ) (function : FnId)
+        → IsLawful setting.layout (step ∷ before) → AllOfBlocks setting (step ∷ before)
+        → AllMarked setting aged before → recorded step.act ≡ told ∷ []
+        → told.outcome ≡ Throttled feeder post function
+        → (e : Entry) × (done : ℕ) × (frame_after setting step.role done ≡ Some e)
+        × (told.frame ≡ e.frame)
+        × (step.act ≡ Look (PostWord feeder)
+            (value_of setting.layout before (PostWord feeder)) (Some told))
+        × IsEarnedThrottle setting aged before e told feeder post function.0 }
+    ensures cleared { (setting : Setting) (aged : ℕ → Ages) (past : History) (feeder f : ℕ)
+        → AllMarked setting aged past → IsFeeder setting.layout feeder
+        → Clears f (standing setting feeder (log_of feeder past)).marks }
+    ensures at_once { (setting : Setting) (aged : ℕ → Ages) (past : History) (feeder f : ℕ)
+        → AllMarked setting aged past → IsFeeder setting.layout feeder
+        → ClearsAtOnce setting feeder f (log_of feeder past) }
     ensures ring_full { (setting : Setting) (step : Step) (before : History) (told : Record)
         (ring : RingId) → AllOfBlocks setting (step ∷ before) → recorded step.act ≡ told ∷ []
         → told.outcome ≡ RingFull ring → IsEarnedFull (log_of step.role before) ring }

@@ -1,6 +1,16 @@
 use Rattle.onvm_core.proofs.Earning.{earned_full, earned_empty, is_sent}
 use Rattle.onvm_core.proofs.Dropping.{is_dropped}
+use Rattle.onvm_core.proofs.Throttling.{earned_throttle, marks_cleared, marks_cleared_at_once}
 use Rattle.onvm_core.proofs.laws.t3_5.Goals as goal
+
+pub returns-clause-throttled : goal.returns-clause-throttled
+returns-clause-throttled c = earned_throttle
+
+pub returns-clause-cleared : goal.returns-clause-cleared
+returns-clause-cleared c = marks_cleared
+
+pub returns-clause-at_once : goal.returns-clause-at_once
+returns-clause-at_once c = marks_cleared_at_once
 
 pub returns-clause-ring_full : goal.returns-clause-ring_full
 returns-clause-ring_full c = earned_full
