@@ -18,7 +18,7 @@ use Rattle.onvm_core.specs.Handling.{core_hand, handles, MayHandle}
 use Rattle.onvm_core.specs.Blocks.{Kind, kind_of, IsOfBlocks}
 use Rattle.onvm_core.specs.Blocks.Kind.{Receives, Sends, Handles, Ticks, Leads}
 use Rattle.onvm_core.specs.Journals.{Handling, journal, journal_of, handlings, handling, last_popped, popped_or}
-use Rattle.onvm_core.specs.Samples.{count_in, handled_since, mailed_count, lost_count, MaySample, AreSamples}
+use Rattle.onvm_core.specs.Samples.{count_in, is_sampled, sampled_after, since_after, handled_since, mailed_count, lost_count, MaySample, AreSamples}
 use Rattle.onvm_core.proofs.Hands.{IsKind, is_kind}
 
 -- Journals
@@ -163,3 +163,41 @@ samples_count setting past f is known blocks samples =
     let role : ℕ = core_role setting.layout f.0 in
     log_counted f setting role (log_of role past)
     (is_kind setting role (log_of role past) Handles (core_handles setting.layout f.0 is known) blocks) samples
+
+since_step : (f : FnId) (act : Act) (was : Bool) (n : ℕ) → (was ≡ true → n ≡ 0) → sampled_after f act was ≡ true → since_after f act n ≡ 0
+since_step f (Push (Output g) item) was n earlier e =
+    elim (cases_Bool (g.0 == f.0)) [
+      | inl met ↦ absurd (let off : false ≡ true = rw met at e in cc)
+      | inr unmet ↦ rw unmet (earlier (rw unmet at e))
+    ]
+since_step f (Push (Mail g) item) was n earlier e =
+    elim (cases_Bool (g.0 == f.0)) [ inl met ↦ rw met refl | inr unmet ↦ rw unmet (earlier (rw unmet at e)) ]
+since_step f (Full (Mail g)) was n earlier e =
+    elim (cases_Bool (g.0 == f.0)) [ inl met ↦ rw met refl | inr unmet ↦ rw unmet (earlier (rw unmet at e)) ]
+since_step f (Push (Lane g p) item) was n earlier e = earlier e
+since_step f (Full (Lane g p)) was n earlier e = earlier e
+since_step f (Full (Output g)) was n earlier e = earlier e
+since_step f (Split a) was n earlier e = earlier e
+since_step f (Join a) was n earlier e = earlier e
+since_step f (Take a) was n earlier e = earlier e
+since_step f (Give a b c) was n earlier e = earlier e
+since_step f (Pop a b) was n earlier e = earlier e
+since_step f (Empty a) was n earlier e = earlier e
+since_step f (Look a b c) was n earlier e = earlier e
+since_step f (Post a b) was n earlier e = earlier e
+
+none_since : (f : FnId) (log : Log) → is_sampled f log ≡ true → handled_since f log ≡ 0
+none_since f [] e = refl
+none_since f (act ∷ before) e = since_step f act (is_sampled f before) (handled_since f before) (none_since f before) e
+
+without_since : (mailed lost since all : ℕ) → mailed + lost + since ≡ all → since ≡ 0 → mailed + lost ≡ all
+without_since mailed lost since all e none = omega (arith, e, none)
+
+-- where a sample stands after the last push, the samples alone make up the journal
+pub samples_complete : (setting : Setting) (past : History) (f : FnId) → IsLayout setting.layout → f.0 < setting.layout.functions
+    → IsOfBlocks setting (core_role setting.layout f.0) (log_of (core_role setting.layout f.0) past)
+    → AreSamples (log_of (core_role setting.layout f.0) past) → is_sampled f (log_of (core_role setting.layout f.0) past) ≡ true
+    → mailed_count f (log_of (core_role setting.layout f.0) past) + lost_count f (log_of (core_role setting.layout f.0) past) ≡ length (journal_of setting past f)
+samples_complete setting past f is known blocks samples e =
+    let log : Log = log_of (core_role setting.layout f.0) past in
+    without_since (mailed_count f log) (lost_count f log) (handled_since f log) (length (journal_of setting past f)) (samples_count setting past f is known blocks samples) (none_since f log e)

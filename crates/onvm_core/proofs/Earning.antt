@@ -34,7 +34,7 @@ use Rattle.onvm_core.specs.Sending.{SendPhase, send_after, send_phase, MaySend, 
 use Rattle.onvm_core.specs.Sending.SendPhase.{Free, Moves as Sending, TurnsBack}
 use Rattle.onvm_core.specs.Blocks.{Kind, kind_of, MayTick, MayLead, MayFollow, IsOfBlocks, AllOfBlocks}
 use Rattle.onvm_core.specs.Blocks.Kind.{Receives, Sends, Handles, Ticks, Leads}
-use Rattle.onvm_core.specs.Earned.{EndsWithLooks, IsEarnedEmpty, IsEarnedFull, IsDropped, IsSent}
+use Rattle.onvm_core.specs.Earned.{EndsWithLooks, IsEarnedEmpty, IsEarnedFull, IsDropped, IsSent, MayRecord}
 use Rattle.onvm_core.proofs.Contents.{same_ring_is, content_moves}
 use Rattle.onvm_core.proofs.Hands.{IsKind, is_kind}
 use Rattle.onvm_core.proofs.Balance.{own_blocks, blocks_before}
@@ -375,6 +375,25 @@ not_empty_full told ring one two = let off : ◌≡◌ {A = Outcome} PoolEmpty (
 pub not_throttled_empty : (told : Record) (k n : ℕ) (f : FnId) → told.outcome ≡ Throttled k n f → told.outcome ≡ PoolEmpty → ⊥
 not_throttled_empty told k n f one two = let off : ◌≡◌ {A = Outcome} (Throttled k n f) PoolEmpty = sym one ∙ two in cc
 
+-- each act records its own outcomes
+
+give_records : (b : BufId) (o : Outcome) (parcel : Parcel) (outcome : Outcome) → Gives outcome → MayRecord (Give b o parcel) outcome
+give_records b o parcel (Sent q) gives = tt
+give_records b o parcel (Dropped f why) gives = tt
+give_records b o parcel (RingFull ring) gives = tt
+give_records b o parcel (Throttled x y z) gives = absurd gives
+give_records b o parcel PoolEmpty gives = absurd gives
+
+pub may_record : (setting : Setting) (step : Step) (before : History) (told : Record) → AllOfBlocks setting (step ∷ before) → recorded step.act ≡ told ∷ [] → MayRecord step.act told.outcome
+may_record setting step before told blocks e =
+    elim (told_by setting step before told blocks e) [
+      | inl (b, outcome, parcel, acts, of, gives, kind) ↦ subst (λ (a : Act). MayRecord a told.outcome) (sym acts) (give_records b outcome parcel told.outcome (subst Gives (sym of) gives))
+      | inr (word, seen, acts, (entry, done, found, inl (k, at, held))) ↦ subst (λ (a : Act). MayRecord a told.outcome) (sym acts)
+          (subst (MayRecord (Look word seen (Some told))) (sym (ap (λ (r : Record). r.outcome) held.told_is)) tt)
+      | inr (word, seen, acts, (entry, done, found, inr (k, at, lost, ends))) ↦ subst (λ (a : Act). MayRecord a told.outcome) (sym acts)
+          (subst (MayRecord (Look word seen (Some told))) (sym (ap (λ (r : Record). r.outcome) lost.told_is)) tt)
+    ]
+
 -- each overflow of a ring is earned
 pub earned_full : (setting : Setting) (step : Step) (before : History) (told : Record) (ring : RingId) → AllOfBlocks setting (step ∷ before) → recorded step.act ≡ told ∷ [] → told.outcome ≡ RingFull ring → IsEarnedFull (log_of step.role before) ring
 earned_full setting step before told ring blocks e is =
@@ -419,7 +438,7 @@ earned_empty setting step before told blocks e is =
 -- Sends
 
 sent_entry : (setting : Setting) (e : Entry) (parcel : Parcel) (q : ℕ) → parcel ≡ entry_parcel e → enter setting.plan e.chain e.hash ≡ Leave q → IsSent setting parcel q
-sent_entry setting e parcel q is leaves = inl (ap (λ (p : Parcel). enter setting.plan p.chain p.hash) is ∙ leaves)
+sent_entry setting e parcel q is leaves = inl (ap (λ (p : Parcel). p.trail) is, ap (λ (p : Parcel). enter setting.plan p.chain p.hash) is ∙ leaves)
 
 receive_sent : (setting : Setting) (port : ℕ) (e : Entry) (phase : ReceivePhase) (b : BufId) (q : ℕ) (parcel : Parcel) → MayReceiveFor setting port e phase (Give b (Sent q) parcel) → IsSent setting parcel q
 receive_sent setting port e (Took done buf) b q parcel may = sent_entry setting e parcel q may.1 may.2

@@ -77,3 +77,7 @@ marks_cleared setting aged past feeder f marked known = cleared (aged feeder) f 
 
 pub marks_cleared_at_once : (setting : Setting) (aged : ℕ → Ages) (past : History) (feeder f : ℕ) → AllMarked setting aged past → IsFeeder setting.layout feeder → ClearsAtOnce setting feeder f (log_of feeder past)
 marks_cleared_at_once setting aged past feeder f marked known = cleared_at_once setting feeder (aged feeder) f (log_of feeder past) (marked feeder known)
+
+-- the word has the last post of the marks
+pub word_posted : (setting : Setting) (past : History) (feeder : ℕ) → IsLawful setting.layout past → IsFeeder setting.layout feeder → value_of setting.layout past (PostWord feeder) ≡ last_post (standing setting feeder (log_of feeder past)).marks
+word_posted setting past feeder lawful known = posted_is setting feeder past known lawful

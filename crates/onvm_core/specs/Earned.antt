@@ -118,6 +118,17 @@ pub record IsDropped (setting : Setting) (parcel : Parcel) (function : FnId) (wh
   pub by : crumb.function ≡ function
   pub ends : IsNext setting parcel (End why)
 
--- the frame leaves by this port from the entry, or by the verdict of its last crumb
+-- the frame leaves by this port from the entry, without a crumb, or by the verdict of its last crumb
 abbrev pub IsSent : Setting → Parcel → ℕ → Type 0
-IsSent setting parcel q = (enter setting.plan parcel.chain parcel.hash ≡ Leave q) ⊎ IsNext setting parcel (Leave q)
+IsSent setting parcel q =
+    ((parcel.trail ≡ []) × (enter setting.plan parcel.chain parcel.hash ≡ Leave q)) ⊎ IsNext setting parcel (Leave q)
+
+-- Which act records what: a look throttles and an empty pool, a give all else
+
+abbrev pub MayRecord : Act → Outcome → Type 0
+MayRecord (Look word seen told) (Throttled feeder post function) = Unit {0}
+MayRecord (Look word seen told) PoolEmpty = Unit {0}
+MayRecord (Give b outcome parcel) (Sent q) = Unit {0}
+MayRecord (Give b outcome parcel) (Dropped function why) = Unit {0}
+MayRecord (Give b outcome parcel) (RingFull ring) = Unit {0}
+MayRecord _ _ = ⊥

@@ -1,5 +1,5 @@
 //! What holds of every lawful list of steps.
-ghost use Rattle.std.specs.Prelude.{◌≡◌, ◌+◌, ◌<◌, ◌≤◌, ◌∷◌, [], ℕ, Some, None, length};
+ghost use Rattle.std.specs.Prelude.{◌≡◌, ◌+◌, ◌<◌, ◌≤◌, ◌∷◌, [], true, ℕ, Some, None, length};
 ghost use Rattle.onvm_base.specs.declared.ids.FnId.{FnId};
 ghost use Rattle.onvm_base.specs.declared.ids.FrameId.{FrameId};
 ghost use Rattle.onvm_base.specs.declared.ids.BufId.{BufId};
@@ -14,8 +14,8 @@ ghost use Rattle.onvm_core.specs.declared.parcel.Parcel.{Parcel};
 ghost use Rattle.onvm_core.specs.declared.place.Place.TheVariants.{Pool};
 ghost use Rattle.onvm_core.specs.declared.step.Act.TheVariants.{Give, Look};
 ghost use Rattle.onvm_core.specs.declared.step.Step.{Step};
-ghost use Rattle.onvm_core.specs.Earned.{Clears, ClearsAtOnce, IsDropped, IsEarnedEmpty, IsEarnedFull, IsEarnedThrottle, IsSent};
-ghost use Rattle.onvm_core.specs.Marks.{Ages, AllMarked, standing};
+ghost use Rattle.onvm_core.specs.Earned.{Clears, ClearsAtOnce, IsDropped, IsEarnedEmpty, IsEarnedFull, IsEarnedThrottle, IsSent, MayRecord};
+ghost use Rattle.onvm_core.specs.Marks.{Ages, AllMarked, last_post, standing};
 ghost use Rattle.onvm_core.specs.Words.{value_of};
 ghost use Rattle.onvm_core.specs.Records.{recorded};
 ghost use Rattle.onvm_core.specs.Layouts.{IsBuffer, IsFeeder, IsLayout, core_role, ring_size};
@@ -27,7 +27,7 @@ ghost use Rattle.onvm_core.specs.Blocks.{AllOfBlocks, IsOfBlocks};
 ghost use Rattle.onvm_core.specs.Frames.{AllEnded, AllInPool, buffers_with, has_begun, load, records_of};
 ghost use Rattle.onvm_core.specs.Journals.{HasShortJournals, IsTraced, Names, journal_of};
 ghost use Rattle.onvm_core.specs.Potential.{potential};
-ghost use Rattle.onvm_core.specs.Samples.{AreSamples, handled_since, lost_count, mailed_count};
+ghost use Rattle.onvm_core.specs.Samples.{AreSamples, handled_since, is_sampled, lost_count, mailed_count};
 
 /// One place: at every moment each buffer is in exactly one of the pool, one ring's content, once,
 /// or one role's hands, and that is its place.
@@ -97,6 +97,10 @@ pub fn t3_5()
         × (step.act ≡ Look (PostWord feeder)
             (value_of setting.layout before (PostWord feeder)) (Some told))
         × IsEarnedThrottle setting aged before e told feeder post function.0 }
+    ensures shown { (setting : Setting) (past : History) (feeder : ℕ)
+        → IsLawful setting.layout past → IsFeeder setting.layout feeder
+        → value_of setting.layout past (PostWord feeder)
+        ≡ last_post (standing setting feeder (log_of feeder past)).marks }
     ensures cleared { (setting : Setting) (aged : ℕ → Ages) (past : History) (feeder f : ℕ)
         → AllMarked setting aged past → IsFeeder setting.layout feeder
         → Clears f (standing setting feeder (log_of feeder past)).marks }
@@ -118,11 +122,15 @@ pub fn t3_5()
     ensures sent { (setting : Setting) (step : Step) (before : History) (b : BufId) (q : ℕ)
         (parcel : Parcel) → AllOfBlocks setting (step ∷ before)
         → step.act ≡ Give b (Sent q) parcel → IsSent setting parcel q }
+    ensures kinds { (setting : Setting) (step : Step) (before : History) (told : Record)
+        → AllOfBlocks setting (step ∷ before) → recorded step.act ≡ told ∷ []
+        → MayRecord step.act told.outcome }
 {}
 
 /// Samples: where each number that a core mails counts what its function handled since its last
-/// sample, mailed or lost, all counts and what was handled since make up the function's journal.
-/// So no handled frame is counted twice.
+/// sample, mailed or lost, all counts and what was handled since make up the function's journal,
+/// and the counts alone where the last push is followed by a sample. So no handled frame is
+/// counted twice.
 pub fn t3_7()
     ensures counted { (setting : Setting) (past : History) (f : FnId) → IsLayout setting.layout
         → f.0 < setting.layout.functions
@@ -131,5 +139,13 @@ pub fn t3_7()
         → mailed_count f (log_of (core_role setting.layout f.0) past)
         + lost_count f (log_of (core_role setting.layout f.0) past)
         + handled_since f (log_of (core_role setting.layout f.0) past)
+        ≡ length (journal_of setting past f) }
+    ensures complete { (setting : Setting) (past : History) (f : FnId) → IsLayout setting.layout
+        → f.0 < setting.layout.functions
+        → IsOfBlocks setting (core_role setting.layout f.0) (log_of (core_role setting.layout f.0) past)
+        → AreSamples (log_of (core_role setting.layout f.0) past)
+        → is_sampled f (log_of (core_role setting.layout f.0) past) ≡ true
+        → mailed_count f (log_of (core_role setting.layout f.0) past)
+        + lost_count f (log_of (core_role setting.layout f.0) past)
         ≡ length (journal_of setting past f) }
 {}
