@@ -1,7 +1,10 @@
 pub mod Balance
 pub mod Contents
 pub mod Cores
+pub mod Counted
 pub mod Crowd
+pub mod Dropping
+pub mod Earning
 pub mod Falls
 pub mod Gathered
 pub mod Hands
@@ -9,10 +12,12 @@ pub mod Held
 pub mod Holders
 pub mod Loads
 pub mod Logged
+pub mod Marked
 pub mod Once
 pub mod Phases
 pub mod Scanned
 pub mod Sums
+pub mod Throttling
 pub mod Traces
 pub mod Walk
 pub mod WalkLogs

@@ -1,5 +1,5 @@
 -- What each record tells, and that it is true: throttles and overflows are earned, drops and sends are the move's.
-use Rattle.std.specs.Prelude.{ℕ, zero, suc, ◌≡◌, ◌+◌, ◌*◌, ◌/◌, ◌^◌, ◌≤◌, ◌⊎◌, true, false, List, [], ◌∷◌, Option, Some, None}
+use Rattle.std.specs.Prelude.{ℕ, zero, suc, ◌≡◌, ◌≢◌, ◌+◌, ◌*◌, ◌/◌, ◌^◌, ◌≤◌, ◌⊎◌, true, false, List, [], ◌∷◌, Option, Some, None}
 use Rattle.onvm_base.specs.declared.ids.FnId.{FnId}
 use Rattle.onvm_base.specs.declared.ids.RingId.{RingId}
 use Rattle.onvm_base.specs.declared.ids.RingId.TheVariants.{Lane}
@@ -10,11 +10,11 @@ use Rattle.onvm_base.specs.declared.outcome.Record.{Record}
 use Rattle.onvm_base.specs.declared.outcome.Why.{Why}
 use Rattle.onvm_base.specs.Moves.{enter}
 use Rattle.onvm_core.specs.declared.entry.Entry.{Entry}
-use Rattle.onvm_core.specs.declared.layout.Word.TheVariants.{Pool as PoolWord, Post as PostWord}
+use Rattle.onvm_core.specs.declared.layout.Word.TheVariants.{Pool as PoolWord, Cell, Post as PostWord}
 use Rattle.onvm_core.specs.declared.parcel.Crumb.{Crumb}
 use Rattle.onvm_core.specs.declared.parcel.Parcel.{Parcel}
 use Rattle.onvm_core.specs.declared.step.Act.{Act}
-use Rattle.onvm_core.specs.declared.step.Act.TheVariants.{Give, Full, Look}
+use Rattle.onvm_core.specs.declared.step.Act.TheVariants.{Give, Full, Look, Post}
 use Rattle.onvm_core.specs.declared.step.Step.{Step}
 use Rattle.onvm_core.specs.History.{History}
 use Rattle.onvm_core.specs.Words.{value_of}
@@ -62,6 +62,29 @@ Clears f (Passed later ∷ Posted value ∷ before) = Clears f (Posted value ∷
 Clears f (Passed later ∷ Passed pass ∷ before) =
     (has_bit (last_post before) f ≡ true → finds false f pass ≡ true) × Clears f (Passed pass ∷ before)
 
+-- The same in the log: a pass is made without a break, and the post that clears a mark is the very next act
+
+-- the newest pass didn't find low, though the last post has the bit
+abbrev pub IsDue : ℕ → Marks → Type 0
+IsDue f [] = ⊥
+IsDue f (Posted value ∷ before) = ⊥
+IsDue f (Passed pass ∷ before) = (has_bit (last_post before) f ≡ true) × (finds false f pass ≡ false)
+
+abbrev pub IsPostWithout : ℕ → Act → Type 0
+IsPostWithout f (Post word value) = has_bit value f ≡ false
+IsPostWithout f _ = ⊥
+
+abbrev pub IsLaneLook : Act → Type 0
+IsLaneLook (Look (Cell (Lane f p) at) seen told) = Unit {0}
+IsLaneLook _ = ⊥
+
+abbrev pub ClearsAtOnce : Setting → (feeder function : ℕ) → Log → Type 0
+ClearsAtOnce setting feeder f [] = Unit {0}
+ClearsAtOnce setting feeder f (act ∷ before) =
+    ((standing setting feeder before).left ≢ [] → IsLaneLook act)
+    × (IsDue f (standing setting feeder before).marks → IsPostWithout f act)
+    × ClearsAtOnce setting feeder f before
+
 -- Overflows
 
 -- the log ends with looks at so many first words of the port's part, in order, next to one another, each of value 0
@@ -95,6 +118,17 @@ pub record IsDropped (setting : Setting) (parcel : Parcel) (function : FnId) (wh
   pub by : crumb.function ≡ function
   pub ends : IsNext setting parcel (End why)
 
--- the frame leaves by this port from the entry, or by the verdict of its last crumb
+-- the frame leaves by this port from the entry, without a crumb, or by the verdict of its last crumb
 abbrev pub IsSent : Setting → Parcel → ℕ → Type 0
-IsSent setting parcel q = (enter setting.plan parcel.chain parcel.hash ≡ Leave q) ⊎ IsNext setting parcel (Leave q)
+IsSent setting parcel q =
+    ((parcel.trail ≡ []) × (enter setting.plan parcel.chain parcel.hash ≡ Leave q)) ⊎ IsNext setting parcel (Leave q)
+
+-- Which act records what: a look throttles and an empty pool, a give all else
+
+abbrev pub MayRecord : Act → Outcome → Type 0
+MayRecord (Look word seen told) (Throttled feeder post function) = Unit {0}
+MayRecord (Look word seen told) PoolEmpty = Unit {0}
+MayRecord (Give b outcome parcel) (Sent q) = Unit {0}
+MayRecord (Give b outcome parcel) (Dropped function why) = Unit {0}
+MayRecord (Give b outcome parcel) (RingFull ring) = Unit {0}
+MayRecord _ _ = ⊥

@@ -1,5 +1,5 @@
 -- The samples that a core mails: each counts the frames that were handled since the one before.
-use Rattle.std.specs.Prelude.{ℕ, ◌≡◌, ◌+◌, ◌/◌, ◌^◌, ◌<◌, ◌==◌, if◌then◌else◌, List, [], ◌∷◌}
+use Rattle.std.specs.Prelude.{ℕ, ◌≡◌, ◌+◌, ◌/◌, ◌^◌, ◌<◌, Bool, true, false, ◌==◌, if◌then◌else◌, List, [], ◌∷◌}
 use Rattle.onvm_base.specs.declared.ids.FnId.{FnId}
 use Rattle.onvm_base.specs.declared.ids.RingId.TheVariants.{Output, Mail}
 use Rattle.onvm_core.specs.declared.step.Act.{Act}
@@ -40,7 +40,7 @@ abbrev pub lost_count : FnId → Log → ℕ
 lost_count f [] = 0
 lost_count f (act ∷ before) = loses_after f act (handled_since f before) (lost_count f before)
 
--- a sample counts the frames since the last one, and there are some; and there are some where one is lost
+-- a sample counts the frames since the last one, and there are some
 abbrev pub MaySample : Log → Act → Type 0
 MaySample before (Push (Mail f) (Number n)) = (count_in n ≡ handled_since f before) × (0 < handled_since f before)
 MaySample before _ = Unit {0}
@@ -48,3 +48,14 @@ MaySample before _ = Unit {0}
 abbrev pub AreSamples : Log → Type 0
 AreSamples [] = Unit {0}
 AreSamples (act ∷ before) = MaySample before act × AreSamples before
+
+abbrev pub sampled_after : FnId → Act → Bool → Bool
+sampled_after f (Push (Output g) item) was = if g.0 == f.0 then false else was
+sampled_after f (Push (Mail g) item) was = if g.0 == f.0 then true else was
+sampled_after f (Full (Mail g)) was = if g.0 == f.0 then true else was
+sampled_after f _ was = was
+
+-- after the last push on the function's output ring stands a sample, mailed or lost
+abbrev pub is_sampled : FnId → Log → Bool
+is_sampled f [] = true
+is_sampled f (act ∷ before) = sampled_after f act (is_sampled f before)
