@@ -1,2 +1,1 @@
 pub mod Exchanged
-pub mod Plans

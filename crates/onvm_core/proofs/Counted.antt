@@ -1,5 +1,5 @@
 -- The counts of a core's samples make up the journals of its functions.
-use Rattle.std.proofs.Common.{◌≡◌, ℕ, ◌+◌, ◌<◌, ◌≤◌, zero, suc, Bool, true, false, ◌⊎◌, inl, inr, List, [], ◌∷◌, ◌++◌, length, refl, sym, ◌∙◌, ap, subst, arith, length-append, Option, Some, None}
+use Rattle.std.proofs.Common.{◌≡◌, ℕ, ◌+◌, ◌<◌, Bool, true, false, inl, inr, [], ◌∷◌, length, refl, sym, ◌∙◌, ap, subst, arith, length-append, Some, None}
 use Rattle.std.specs.Prelude.{if◌then◌else◌, ◌==◌, nat_lt, slice_index}
 use Rattle.std.proofs.lemmas.Bool.{cases_Bool, eq-eqb, eqb-true, lt-ltb, le-ltb}
 use Rattle.std.proofs.lemmas.List.{append-nil}
@@ -13,11 +13,11 @@ use Rattle.onvm_core.specs.declared.step.Act.TheVariants.{Split, Join, Take, Giv
 use Rattle.onvm_core.specs.History.{History}
 use Rattle.onvm_core.specs.declared.layout.Layout.{Layout}
 use Rattle.onvm_core.specs.Layouts.{IsLayout, core_role}
-use Rattle.onvm_core.specs.Logs.{Setting, Log, log_of, Hand, push_count}
+use Rattle.onvm_core.specs.Logs.{Setting, Log, log_of, Hand}
 use Rattle.onvm_core.specs.Handling.{core_hand, handles, MayHandle}
-use Rattle.onvm_core.specs.Blocks.{Kind, kind_of, IsOfBlocks}
-use Rattle.onvm_core.specs.Blocks.Kind.{Receives, Sends, Handles, Ticks, Leads}
-use Rattle.onvm_core.specs.Journals.{Handling, journal, journal_of, handlings, handling, last_popped, popped_or}
+use Rattle.onvm_core.specs.Blocks.{kind_of, IsOfBlocks}
+use Rattle.onvm_core.specs.Blocks.Kind.{Handles}
+use Rattle.onvm_core.specs.Journals.{journal, journal_of, handlings, last_popped}
 use Rattle.onvm_core.specs.Samples.{count_in, is_sampled, sampled_after, since_after, handled_since, mailed_count, lost_count, MaySample, AreSamples}
 use Rattle.onvm_core.proofs.Hands.{IsKind, is_kind}
 

@@ -1,6 +1,6 @@
 -- A crowd: of five frames of a port with three buffers two stand in a lane, the third finds it full, the fourth goes to
 -- another function, and the fifth finds the pool empty. The steps are lawful and follow the pattern.
-use Rattle.std.proofs.Common.{◌≡◌, ℕ, zero, suc, ◌+◌, ◌<◌, ◌≤◌, ◌^◌, Bool, true, false, ◌⊎◌, inl, inr, List, [], ◌∷◌, refl, sym, subst, arith, Option, Some, None}
+use Rattle.std.proofs.Common.{◌≡◌, ℕ, zero, suc, ◌<◌, true, inl, inr, [], ◌∷◌, refl, subst, arith, Some, None}
 use Rattle.std.specs.Prelude.{◌==◌, IsBitSet, replicate}
 use Rattle.std.proofs.lemmas.Bool.{cases_Bool, eqb-true}
 use Rattle.onvm_base.specs.declared.ids.BufId.{BufId}
@@ -8,20 +8,17 @@ use Rattle.onvm_base.specs.declared.ids.FnId.{FnId}
 use Rattle.onvm_base.specs.declared.ids.PortId.{PortId}
 use Rattle.onvm_base.specs.declared.ids.RingId.TheVariants.{Lane}
 use Rattle.onvm_base.specs.declared.outcome.Outcome.TheVariants.{RingFull, PoolEmpty}
-use Rattle.onvm_base.specs.declared.outcome.Record.{Record}
 use Rattle.onvm_core.specs.declared.entry.Entry.{Entry}
 use Rattle.onvm_core.specs.declared.layout.Layout.{Layout}
 use Rattle.onvm_core.specs.declared.layout.Word.TheVariants.{Pool as PoolWord, Post as PostWord}
-use Rattle.onvm_core.specs.declared.step.Act.{Act}
 use Rattle.onvm_core.specs.declared.step.Act.TheVariants.{Split, Take, Give, Push, Full, Look}
 use Rattle.onvm_core.specs.declared.step.Item.TheVariants.{Buffer}
-use Rattle.onvm_core.specs.declared.step.Step.{Step}
 use Rattle.onvm_core.specs.History.{History}
 use Rattle.onvm_core.specs.Words.{pool_bits}
 use Rattle.onvm_core.specs.Lawful.{IsLawful}
 use Rattle.onvm_core.specs.Logs.{Setting, entry_parcel, log_of}
 use Rattle.onvm_core.specs.Blocks.{AllOfBlocks, IsOfBlocks}
-use Rattle.onvm_base.proofs.Plans.{narrow}
+use Rattle.onvm_core.proofs.Plans.{narrow}
 use Rattle.onvm_core.proofs.Walk.{by}
 use Rattle.onvm_core.proofs.WalkLogs.{no_bit}
 
@@ -270,32 +267,79 @@ pub crowd_is_lawful : IsLawful layout crowd
 crowd_is_lawful = lawful_25
 
 receive_is : IsOfBlocks setting 0 (log_of 0 crowd)
-receive_is =
-    (inr (e5, refl, (refl, record { none = refl; last = omega arith; told_is = refl })),
-    (inr (e5, refl, (refl, λ k raised. no_bit k raised.bit)),
-    (inr (e5, refl, (refl, λ k raised. no_bit k raised.bit)),
-    (inr (e4, refl, (refl, refl, record { function = g; cursor = 0; move = refl; lane = refl })),
-    (inr (e4, refl, record { known = omega arith; word = refl; shown = bit_4_2; lowest = lowest_4 }),
-    (inr (e4, refl, (refl, λ none. absurd (omega (arith, none)))),
-    (inr (e4, refl, (refl, λ k raised. no_bit k raised.bit)),
-    (inr (e4, refl, (refl, λ k raised. no_bit k raised.bit)),
-    (inr (e3, refl, (refl, refl, refl)),
-    (inr (e3, refl, record { function = f; cursor = 0; move = refl; lane = refl }),
-    (inr (e3, refl, record { known = omega arith; word = refl; shown = bit_4_2; lowest = lowest_4 }),
-    (inr (e3, refl, (refl, λ none. absurd (omega (arith, none)))),
-    (inr (e3, refl, (refl, λ k raised. no_bit k raised.bit)),
-    (inr (e3, refl, (refl, λ k raised. no_bit k raised.bit)),
-    (inr (e2, refl, (refl, refl, record { function = f; cursor = 0; move = refl; lane = refl })),
-    (inr (e2, refl, record { known = omega arith; word = refl; shown = bit_6_1; lowest = lowest_6 }),
-    (inr (e2, refl, (refl, λ none. absurd (omega (arith, none)))),
-    (inr (e2, refl, (refl, λ k raised. no_bit k raised.bit)),
-    (inr (e2, refl, (refl, λ k raised. no_bit k raised.bit)),
-    (inr (e1, refl, (refl, refl, record { function = f; cursor = 0; move = refl; lane = refl })),
-    (inr (e1, refl, record { known = omega arith; word = refl; shown = bit_7_0; lowest = lowest_7 }),
-    (inr (e1, refl, (refl, λ none. absurd (omega (arith, none)))),
-    (inr (e1, refl, (refl, λ k raised. no_bit k raised.bit)),
-    (inr (e1, refl, (refl, λ k raised. no_bit k raised.bit)),
-    tt))))))))))))))))))))))))
+receive_is = (
+  inr (e5, refl, (refl, record { none = refl; last = omega arith; told_is = refl })),
+  (
+    inr (e5, refl, (refl, λ k raised. no_bit k raised.bit)),
+    (
+      inr (e5, refl, (refl, λ k raised. no_bit k raised.bit)),
+      (
+        inr (e4, refl, (refl, refl, record { function = g; cursor = 0; move = refl; lane = refl })),
+        (
+          inr (e4, refl, record { known = omega arith; word = refl; shown = bit_4_2; lowest = lowest_4 }),
+          (
+            inr (e4, refl, (refl, λ none. absurd (omega (arith, none)))),
+            (
+              inr (e4, refl, (refl, λ k raised. no_bit k raised.bit)),
+              (
+                inr (e4, refl, (refl, λ k raised. no_bit k raised.bit)),
+                (
+                  inr (e3, refl, (refl, refl, refl)),
+                  (
+                    inr (e3, refl, record { function = f; cursor = 0; move = refl; lane = refl }),
+                    (
+                      inr (e3, refl, record { known = omega arith; word = refl; shown = bit_4_2; lowest = lowest_4 }),
+                      (
+                        inr (e3, refl, (refl, λ none. absurd (omega (arith, none)))),
+                        (
+                          inr (e3, refl, (refl, λ k raised. no_bit k raised.bit)),
+                          (
+                            inr (e3, refl, (refl, λ k raised. no_bit k raised.bit)),
+                            (
+                              inr (e2, refl, (refl, refl, record { function = f; cursor = 0; move = refl; lane = refl })),
+                              (
+                                inr (e2, refl, record { known = omega arith; word = refl; shown = bit_6_1; lowest = lowest_6 }),
+                                (
+                                  inr (e2, refl, (refl, λ none. absurd (omega (arith, none)))),
+                                  (
+                                    inr (e2, refl, (refl, λ k raised. no_bit k raised.bit)),
+                                    (
+                                      inr (e2, refl, (refl, λ k raised. no_bit k raised.bit)),
+                                      (
+                                        inr (e1, refl, (refl, refl, record { function = f; cursor = 0; move = refl; lane = refl })),
+                                        (
+                                          inr (e1, refl, record { known = omega arith; word = refl; shown = bit_7_0; lowest = lowest_7 }),
+                                          (
+                                            inr (e1, refl, (refl, λ none. absurd (omega (arith, none)))),
+                                            (
+                                              inr (e1, refl, (refl, λ k raised. no_bit k raised.bit)),
+                                              (
+                                                inr (e1, refl, (refl, λ k raised. no_bit k raised.bit)),
+                                                tt,
+                                              ),
+                                            ),
+                                          ),
+                                        ),
+                                      ),
+                                    ),
+                                  ),
+                                ),
+                              ),
+                            ),
+                          ),
+                        ),
+                      ),
+                    ),
+                  ),
+                ),
+              ),
+            ),
+          ),
+        ),
+      ),
+    ),
+  ),
+)
 
 lead_is : IsOfBlocks setting 4 (log_of 4 crowd)
 lead_is = (tt, tt)

@@ -1,20 +1,16 @@
 -- Each drop is the move's: a parcel that was popped from an output ring has its last crumb of that function.
-use Rattle.std.proofs.Common.{◌≡◌, ◌≢◌, ℕ, ◌+◌, ◌-◌, ◌*◌, ◌<◌, ◌≤◌, zero, suc, add-one, Bool, true, false, ◌⊎◌, inl, inr, List, [], ◌∷◌, ◌++◌, length, refl, sym, ◌∙◌, ap, subst, arith, Option, Some, None}
-use Rattle.std.specs.Prelude.{slice_get, if◌then◌else◌, ◌==◌, ◌^◌, ◌/◌}
-use Rattle.std.proofs.lemmas.Bool.{cases_Bool, eqb-true, eq-eqb}
+use Rattle.std.proofs.Common.{◌≡◌, ℕ, ◌-◌, inl, inr, List, [], ◌∷◌, ◌++◌, length, refl, sym, ◌∙◌, ap, subst, arith, Some}
+use Rattle.std.specs.Prelude.{slice_get, ◌==◌}
+use Rattle.std.proofs.lemmas.Bool.{cases_Bool}
 use Rattle.onvm_base.specs.declared.ids.RingId.{RingId}
 use Rattle.onvm_base.specs.declared.ids.RingId.TheVariants.{Lane, Output, Mail}
 use Rattle.onvm_base.specs.declared.ids.BufId.{BufId}
 use Rattle.onvm_base.specs.declared.ids.FnId.{FnId}
-use Rattle.onvm_base.specs.declared.moves.Move.TheVariants.{To, Leave, End}
-use Rattle.onvm_base.specs.declared.outcome.Record.{Record}
+use Rattle.onvm_base.specs.declared.moves.Move.TheVariants.{End}
 use Rattle.onvm_base.specs.declared.outcome.Outcome.{Outcome}
-use Rattle.onvm_base.specs.declared.outcome.Outcome.TheVariants.{Sent, Dropped, Throttled, RingFull, PoolEmpty}
+use Rattle.onvm_base.specs.declared.outcome.Outcome.TheVariants.{Dropped, RingFull}
 use Rattle.onvm_base.specs.declared.outcome.Why.{Why}
-use Rattle.onvm_base.specs.Moves.{enter}
 use Rattle.onvm_core.specs.declared.entry.Entry.{Entry}
-use Rattle.onvm_core.specs.declared.layout.Word.{Word}
-use Rattle.onvm_core.specs.declared.layout.Word.TheVariants.{Pool as PoolWord, Cell, Post as PostWord, Weight}
 use Rattle.onvm_core.specs.declared.parcel.Parcel.{Parcel}
 use Rattle.onvm_core.specs.declared.parcel.Crumb.{Crumb}
 use Rattle.onvm_core.specs.declared.step.Item.{Item}
@@ -25,20 +21,18 @@ use Rattle.onvm_core.specs.declared.step.Step.{Step}
 use Rattle.onvm_core.specs.History.{History, pushes, pops, content_of}
 use Rattle.onvm_core.specs.Layouts.{same_ring}
 use Rattle.onvm_core.specs.Lawful.{AllowsAct, IsLawful}
-use Rattle.onvm_core.specs.Records.{recorded}
-use Rattle.onvm_core.specs.Logs.{IsHandled, Setting, Log, Hand, log_of, of_port, feeders, frame_after, entry_parcel, last_crumb, moved_to}
-use Rattle.onvm_core.specs.Receiving.{ReceivePhase, asked, sought, receive_after, receive_phase, done_in, IsBetween, IsMark, MayAsk, MaySeek, IsLost, IsHeld, MayEnter, EntersBy, MayReceive, MayReceiveFor}
+use Rattle.onvm_core.specs.Logs.{IsHandled, Setting, Log, Hand, log_of, last_crumb}
+use Rattle.onvm_core.specs.Receiving.{ReceivePhase, receive_phase, MayReceiveFor}
 use Rattle.onvm_core.specs.Receiving.ReceivePhase.{Between, Asks, Seeks, Sees, Took, Barred}
-use Rattle.onvm_core.specs.Handling.{MayHandle, MayPush, crumb_place}
-use Rattle.onvm_core.specs.Sending.{SendPhase, send_after, send_phase, MaySend, MaySendOn, GoesBy, IsNext, Reads}
+use Rattle.onvm_core.specs.Handling.{MayHandle, crumb_place}
+use Rattle.onvm_core.specs.Sending.{SendPhase, send_after, send_phase, MaySend, IsNext}
 use Rattle.onvm_core.specs.Sending.SendPhase.{Free, Moves as Sending, TurnsBack}
-use Rattle.onvm_core.specs.Blocks.{Kind, kind_of, MayTick, MayLead, MayFollow, IsOfBlocks, AllOfBlocks}
+use Rattle.onvm_core.specs.Blocks.{Kind, kind_of, MayFollow, AllOfBlocks}
 use Rattle.onvm_core.specs.Blocks.Kind.{Receives, Sends, Handles, Ticks, Leads}
-use Rattle.onvm_core.specs.Earned.{EndsWithLooks, IsEarnedEmpty, IsEarnedFull, IsDropped, IsSent}
+use Rattle.onvm_core.specs.Earned.{IsDropped}
 use Rattle.onvm_core.proofs.Contents.{same_ring_is, content_moves}
-use Rattle.onvm_core.proofs.Hands.{IsKind, is_kind}
 use Rattle.std.proofs.lemmas.List.{length_push}
-use Rattle.onvm_core.proofs.Balance.{own_blocks, blocks_before}
+use Rattle.onvm_core.proofs.Balance.{blocks_before}
 use Rattle.onvm_core.proofs.Loads.{Each, Each-append, Each_right, first_of}
 use Rattle.onvm_core.proofs.Earning.{acting}
 

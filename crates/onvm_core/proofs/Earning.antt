@@ -1,44 +1,37 @@
 -- Each overflow is earned, and each drop and send is the move's.
-use Rattle.std.proofs.Common.{◌≡◌, ◌≢◌, ℕ, ◌+◌, ◌*◌, ◌<◌, ◌≤◌, zero, suc, add-one, Bool, true, false, ◌⊎◌, inl, inr, List, [], ◌∷◌, ◌++◌, length, refl, sym, ◌∙◌, ap, subst, arith, Option, Some, None}
-use Rattle.std.specs.Prelude.{slice_get, if◌then◌else◌, ◌==◌, ◌^◌, ◌/◌}
-use Rattle.std.proofs.lemmas.Bool.{cases_Bool, eqb-true, eq-eqb}
+use Rattle.std.proofs.Common.{◌≡◌, ℕ, ◌+◌, zero, suc, add-one, ◌⊎◌, inl, inr, List, [], ◌∷◌, refl, sym, ◌∙◌, ap, subst, Option, Some, None}
+use Rattle.std.specs.Prelude.{slice_get, ◌==◌, ◌^◌, ◌/◌}
+use Rattle.std.proofs.lemmas.Bool.{cases_Bool, eqb-true}
 use Rattle.onvm_base.specs.declared.ids.RingId.{RingId}
 use Rattle.onvm_base.specs.declared.ids.RingId.TheVariants.{Lane, Output, Mail}
 use Rattle.onvm_base.specs.declared.ids.BufId.{BufId}
 use Rattle.onvm_base.specs.declared.ids.FnId.{FnId}
-use Rattle.onvm_base.specs.declared.moves.Move.TheVariants.{To, Leave, End}
+use Rattle.onvm_base.specs.declared.moves.Move.TheVariants.{Leave}
 use Rattle.onvm_base.specs.declared.outcome.Record.{Record}
 use Rattle.onvm_base.specs.declared.outcome.Outcome.{Outcome}
 use Rattle.onvm_base.specs.declared.outcome.Outcome.TheVariants.{Sent, Dropped, Throttled, RingFull, PoolEmpty}
-use Rattle.onvm_base.specs.declared.outcome.Why.{Why}
 use Rattle.onvm_base.specs.Moves.{enter}
 use Rattle.onvm_core.specs.declared.entry.Entry.{Entry}
 use Rattle.onvm_core.specs.declared.layout.Word.{Word}
 use Rattle.onvm_core.specs.declared.layout.Word.TheVariants.{Pool as PoolWord, Cell, Post as PostWord, Weight}
 use Rattle.onvm_core.specs.declared.parcel.Parcel.{Parcel}
-use Rattle.onvm_core.specs.declared.parcel.Crumb.{Crumb}
-use Rattle.onvm_core.specs.declared.step.Item.{Item}
 use Rattle.onvm_core.specs.declared.step.Item.TheVariants.{Buffer, Number}
 use Rattle.onvm_core.specs.declared.step.Act.{Act}
 use Rattle.onvm_core.specs.declared.step.Act.TheVariants.{Split, Join, Take, Give, Push, Full, Pop, Empty, Look, Post}
 use Rattle.onvm_core.specs.declared.step.Step.{Step}
-use Rattle.onvm_core.specs.History.{History, pushes, pops, content_of}
-use Rattle.onvm_core.specs.Layouts.{same_ring}
-use Rattle.onvm_core.specs.Lawful.{AllowsAct, IsLawful}
+use Rattle.onvm_core.specs.History.{History}
 use Rattle.onvm_core.specs.Records.{recorded}
-use Rattle.onvm_core.specs.Logs.{Setting, Log, Hand, log_of, of_port, feeders, frame_after, entry_parcel, last_crumb, moved_to}
-use Rattle.onvm_core.specs.Receiving.{ReceivePhase, asked, sought, receive_after, receive_phase, done_in, IsBetween, IsMark, MayAsk, MaySeek, IsLost, IsHeld, MayEnter, EntersBy, MayReceive, MayReceiveFor}
+use Rattle.onvm_core.specs.Logs.{Setting, Log, log_of, of_port, feeders, frame_after, entry_parcel}
+use Rattle.onvm_core.specs.Receiving.{ReceivePhase, asked, sought, receive_after, receive_phase, done_in, IsBetween, IsMark, MaySeek, IsLost, IsHeld, EntersBy, MayReceiveFor}
 use Rattle.onvm_core.specs.Receiving.ReceivePhase.{Between, Asks, Seeks, Sees, Took, Barred}
-use Rattle.onvm_core.specs.Handling.{MayHandle}
-use Rattle.onvm_core.specs.Sending.{SendPhase, send_after, send_phase, MaySend, MaySendOn, GoesBy, IsNext, Reads}
+use Rattle.onvm_core.specs.Sending.{SendPhase, send_after, send_phase, MaySend, GoesBy, IsNext}
 use Rattle.onvm_core.specs.Sending.SendPhase.{Free, Moves as Sending, TurnsBack}
-use Rattle.onvm_core.specs.Blocks.{Kind, kind_of, MayTick, MayLead, MayFollow, IsOfBlocks, AllOfBlocks}
+use Rattle.onvm_core.specs.Blocks.{Kind, kind_of, MayFollow, IsOfBlocks, AllOfBlocks}
 use Rattle.onvm_core.specs.Blocks.Kind.{Receives, Sends, Handles, Ticks, Leads}
-use Rattle.onvm_core.specs.Earned.{EndsWithLooks, IsEarnedEmpty, IsEarnedFull, IsDropped, IsSent, MayRecord}
-use Rattle.onvm_core.proofs.Contents.{same_ring_is, content_moves}
+use Rattle.onvm_core.specs.Earned.{EndsWithLooks, IsEarnedEmpty, IsEarnedFull, IsSent, MayRecord}
 use Rattle.onvm_core.proofs.Hands.{IsKind, is_kind}
-use Rattle.onvm_core.proofs.Balance.{own_blocks, blocks_before}
-use Rattle.onvm_core.proofs.Loads.{Each, Each-append, Each_right, first_of}
+use Rattle.onvm_core.proofs.Balance.{own_blocks}
+use Rattle.onvm_core.proofs.Loads.{Each}
 
 -- What the log of a receive role ends with: the looks at the part's words, or the ring that was found full
 
@@ -426,13 +419,16 @@ earned_empty setting step before told blocks e is =
     elim (told_by setting step before told blocks e) [
       | inl (b, outcome, parcel, acts, of, gives, kind) ↦ absurd (subst Gives (sym of ∙ is) gives)
       | inr (word, seen, acts, (entry, done, found, inl (k, at, held))) ↦ absurd (not_throttled_empty told k (seen / 2 ^ 32) (record { 0 = held.function }) (ap (λ (r : Record). r.outcome) held.told_is) is)
-      | inr (word, seen, acts, (entry, done, found, inr (k, at, lost, ends))) ↦ (record {
+      | inr (word, seen, acts, (entry, done, found, inr (k, at, lost, ends))) ↦ (
+        record {
           index = k;
           told = told;
           look = acts ∙ ap (λ (w : Word). Look w seen (Some told)) at ∙ ap (λ (n : ℕ). Look (PoolWord (record { 0 = step.role }) k) n (Some told)) lost.none;
           last = lost.last;
           earlier = ends;
-        }, ap (λ (r : Record). r.frame.port.0) lost.told_is ∙ port_is setting step.role done entry found)
+        },
+        ap (λ (r : Record). r.frame.port.0) lost.told_is ∙ port_is setting step.role done entry found,
+      )
     ]
 
 -- Sends

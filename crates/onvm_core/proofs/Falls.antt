@@ -1,7 +1,7 @@
 -- No step raises the potential.
-use Rattle.std.proofs.Common.{◌≡◌, ◌≢◌, ℕ, ◌+◌, ◌-◌, ◌*◌, ◌<◌, ◌≤◌, zero, suc, zero-add, add-zero, Bool, true, false, ◌⊎◌, inl, inr, List, [], ◌∷◌, ◌++◌, length, drop, refl, sym, ◌∙◌, ap, subst, arith, Option, Some, None}
-use Rattle.std.specs.Prelude.{slice_get, if◌then◌else◌, ◌==◌, nat_lt, not, unwrap_or}
-use Rattle.std.proofs.lemmas.Bool.{cases_Bool, and_parts, eqb-true, eqb-false, eq-eqb, ne_eqb, cases_order, lt-ltb, le-ltb, ltb-true, ltb-false, le-leb, lt-leb}
+use Rattle.std.proofs.Common.{◌≡◌, ℕ, ◌+◌, ◌-◌, ◌*◌, ◌<◌, ◌≤◌, zero, suc, ◌⊎◌, inl, inr, ◌∷◌, length, refl, sym, ◌∙◌, ap, subst, arith, Option, Some, None}
+use Rattle.std.specs.Prelude.{nat_lt, unwrap_or}
+use Rattle.std.proofs.lemmas.Bool.{cases_Bool, eq-eqb, ne_eqb, cases_order, le-ltb, ltb-true, ltb-false}
 use Rattle.onvm_base.specs.declared.ids.RingId.{RingId}
 use Rattle.onvm_base.specs.declared.ids.BufId.{BufId}
 use Rattle.onvm_base.specs.declared.ids.FnId.{FnId}
@@ -15,38 +15,28 @@ use Rattle.onvm_core.specs.declared.step.Act.{Act}
 use Rattle.onvm_core.specs.declared.step.Act.TheVariants.{Split, Join, Take, Give, Push, Full, Pop, Empty, Look, Post}
 use Rattle.onvm_core.specs.declared.step.Step.{Step}
 use Rattle.onvm_core.specs.declared.place.Place.{Place}
-use Rattle.onvm_core.specs.declared.place.Place.TheVariants.{Pool, Ring, Role}
-use Rattle.onvm_core.specs.Layouts.{same_ring, IsBuffer, producer, consumer, core_role}
-use Rattle.onvm_core.specs.History.{History, pushes, pops, pushed_on, popped_from, content_of, place_of, puts}
-use Rattle.onvm_core.specs.Lawful.{AllowsAct, Allows, IsLawful, Suits, Holds}
-use Rattle.onvm_core.specs.Records.{recorded, records_in}
-use Rattle.onvm_core.specs.Places.{is_buffer, how_many, one_if, same_place, once_at, all_below}
-use Rattle.onvm_core.specs.Logs.{Setting, of_port, Log, log_of, Hand, feeders, frame_after, entry_parcel, IsNumbered, IsHandled, push_count}
-use Rattle.onvm_core.specs.Receiving.{ReceivePhase, asked, sought, receive_after, receive_phase, done_in, IsBetween, IsMark, MayAsk, MaySeek, MayEnter, MayReceive, MayReceiveFor}
-use Rattle.onvm_core.specs.Handling.{core_hand, handles, MayHandle, crumb_place}
-use Rattle.onvm_core.specs.Sending.{SendPhase, send_after, send_phase, MaySend, MaySendOn}
-use Rattle.onvm_core.specs.Blocks.{Kind, kind_of, MayTick, MayLead, MayFollow, IsOfBlocks, AllOfBlocks}
-use Rattle.onvm_core.specs.Frames.{Load, load, load_of, load_after, block_frame, frame_of, same_frame, has_frame, buffers_with, records_of, begun_in, has_begun, AllEnded, AllInPool}
-use Rattle.onvm_core.specs.Potential.{sum_below, hops_left, is_sender, weight, waiting, potential}
-use Rattle.onvm_base.specs.declared.outcome.Record.{Record}
-use Rattle.onvm_base.specs.declared.outcome.Outcome.{Outcome}
-use Rattle.onvm_base.specs.declared.outcome.Outcome.TheVariants.{Sent, Dropped, Throttled, RingFull, PoolEmpty}
+use Rattle.onvm_core.specs.declared.place.Place.TheVariants.{Ring, Role}
+use Rattle.onvm_core.specs.Layouts.{consumer, core_role}
+use Rattle.onvm_core.specs.History.{History, content_of, place_of, puts}
+use Rattle.onvm_core.specs.Lawful.{AllowsAct, IsLawful, Suits}
+use Rattle.onvm_core.specs.Logs.{Setting, of_port, Log, log_of, Hand, frame_after, IsNumbered}
+use Rattle.onvm_core.specs.Receiving.{ReceivePhase, receive_after, receive_phase, done_in, MayReceive, MayReceiveFor}
+use Rattle.onvm_core.specs.Handling.{core_hand, MayHandle, crumb_place}
+use Rattle.onvm_core.specs.Sending.{SendPhase, send_phase, MaySend}
+use Rattle.onvm_core.specs.Blocks.{Kind, kind_of, MayFollow, IsOfBlocks, AllOfBlocks}
+use Rattle.onvm_core.specs.Frames.{Load, load, load_after, block_frame, begun_in}
+use Rattle.onvm_core.specs.Potential.{sum_below, is_sender, weight, waiting, potential}
 use Rattle.onvm_base.specs.declared.ids.RingId.TheVariants.{Lane, Output, Mail}
-use Rattle.onvm_core.specs.declared.layout.Word.{Word}
-use Rattle.onvm_core.specs.declared.layout.Word.TheVariants.{Pool as PoolWord, Cell, Post as PostWord, Weight}
 use Rattle.onvm_core.specs.declared.entry.Entry.{Entry}
 use Rattle.onvm_core.specs.Receiving.ReceivePhase.{Between, Asks, Seeks, Sees, Took, Barred}
 use Rattle.onvm_core.specs.Sending.SendPhase.{Free, Moves as Sending, TurnsBack}
 use Rattle.onvm_core.specs.Blocks.Kind.{Receives, Sends, Handles, Ticks, Leads}
-use Rattle.std.specs.Prelude.{◌&&◌, nat_le}
-use Rattle.std.proofs.lemmas.Bool.Decides.{nat_tests}
 use Rattle.onvm_core.specs.Frames.Load.{Fresh, Loaded}
-use Rattle.onvm_core.proofs.Once.{how_many-append}
-use Rattle.onvm_core.proofs.Loads.{own_load, own_load_after, own_load_is, HasLoad, pool_load, popped_load, content_loaded, IsLoaded}
-use Rattle.onvm_core.proofs.Hands.{LetsGo, Carries, lets_go, is_kind, IsKind}
-use Rattle.onvm_core.proofs.Loads.{IsAt, content_at, first_of, foreign_untouched, load_untouched}
+use Rattle.onvm_core.proofs.Loads.{own_load, own_load_is, HasLoad, pool_load, content_loaded, IsLoaded}
+use Rattle.onvm_core.proofs.Hands.{is_kind, IsKind}
+use Rattle.onvm_core.proofs.Loads.{IsAt, content_at, first_of}
 use Rattle.onvm_core.proofs.Hands.{HasTaken, HasHand, HasSend, receive_has, core_has, send_has}
-use Rattle.onvm_core.proofs.Balance.{fits_of, Fits, own_blocks, blocks_before, starts, own_begins, Begins, kind_receives, kind_other, other_starts, within_of}
+use Rattle.onvm_core.proofs.Balance.{own_blocks, starts, own_begins, kind_receives, kind_other, other_starts, within_of}
 
 sum_same : (f g : ℕ → ℕ) (n : ℕ) → ((k : ℕ) → f k ≡ g k) → sum_below f n ≡ sum_below g n
 sum_same f g zero h = refl

@@ -1,41 +1,29 @@
 -- What a role's blocks say of the buffer that it has.
-use Rattle.std.proofs.Common.{◌≡◌, ◌≢◌, ℕ, ◌+◌, ◌-◌, ◌*◌, ◌<◌, ◌≤◌, zero, suc, zero-add, add-zero, Bool, true, false, ◌⊎◌, inl, inr, List, [], ◌∷◌, ◌++◌, length, drop, refl, sym, ◌∙◌, ap, subst, arith, Option, Some, None}
-use Rattle.std.specs.Prelude.{slice_get, if◌then◌else◌, ◌==◌, nat_lt, not, unwrap_or}
-use Rattle.std.proofs.lemmas.Bool.{cases_Bool, and_parts, eqb-true, eqb-false, eq-eqb, ne_eqb, cases_order}
-use Rattle.onvm_base.specs.declared.ids.RingId.{RingId}
+use Rattle.std.proofs.Common.{◌≡◌, ℕ, ◌+◌, inl, inr, [], ◌∷◌, refl, sym, ◌∙◌, ap, subst, Option, Some, None}
+use Rattle.std.specs.Prelude.{◌==◌}
+use Rattle.std.proofs.lemmas.Bool.{cases_Bool}
 use Rattle.onvm_base.specs.declared.ids.BufId.{BufId}
 use Rattle.onvm_base.specs.declared.ids.FrameId.{FrameId}
-use Rattle.onvm_core.specs.declared.layout.Layout.{Layout}
 use Rattle.onvm_core.specs.declared.parcel.Parcel.{Parcel}
-use Rattle.onvm_core.specs.declared.step.Item.{Item}
 use Rattle.onvm_core.specs.declared.step.Item.TheVariants.{Buffer, Number}
 use Rattle.onvm_core.specs.declared.step.Act.{Act}
 use Rattle.onvm_core.specs.declared.step.Act.TheVariants.{Split, Join, Take, Give, Push, Full, Pop, Empty, Look, Post}
-use Rattle.onvm_core.specs.declared.step.Step.{Step}
-use Rattle.onvm_core.specs.declared.place.Place.{Place}
-use Rattle.onvm_core.specs.declared.place.Place.TheVariants.{Pool, Ring, Role}
-use Rattle.onvm_core.specs.Layouts.{same_ring, IsBuffer}
-use Rattle.onvm_core.specs.History.{History, pushes, pops, pushed_on, popped_from, content_of, place_of, puts}
-use Rattle.onvm_core.specs.Lawful.{AllowsAct, Allows, IsLawful, Suits, Holds}
-use Rattle.onvm_core.specs.Places.{is_buffer, how_many, one_if, same_place, once_at}
-use Rattle.onvm_core.specs.Logs.{Setting, Log, log_of, Hand, feeders, frame_after, entry_parcel, IsNumbered}
-use Rattle.onvm_core.specs.Receiving.{ReceivePhase, asked, sought, receive_after, receive_phase, done_in, IsBetween, IsMark, MayAsk, MaySeek, MayEnter, MayReceive, MayReceiveFor}
+use Rattle.onvm_core.specs.Logs.{Setting, Log, Hand, feeders, frame_after, entry_parcel, IsNumbered}
+use Rattle.onvm_core.specs.Receiving.{ReceivePhase, asked, sought, receive_after, receive_phase, done_in, IsBetween, IsMark, MayReceiveFor}
 use Rattle.onvm_core.specs.Handling.{core_hand, handles, MayHandle}
-use Rattle.onvm_core.specs.Sending.{SendPhase, send_after, send_phase, MaySend, MaySendOn}
-use Rattle.onvm_core.specs.Blocks.{Kind, kind_of, MayTick, MayLead, MayFollow, IsOfBlocks, AllOfBlocks}
-use Rattle.onvm_core.specs.Frames.{Load, load, load_of, load_after, block_frame, frame_of}
+use Rattle.onvm_core.specs.Sending.{SendPhase, send_after, send_phase, MaySend}
+use Rattle.onvm_core.specs.Blocks.{Kind, kind_of, MayTick, MayLead, MayFollow, IsOfBlocks}
+use Rattle.onvm_core.specs.Frames.{Load, block_frame, frame_of}
 use Rattle.onvm_base.specs.declared.outcome.Record.{Record}
-use Rattle.onvm_base.specs.declared.outcome.Outcome.{Outcome}
 use Rattle.onvm_base.specs.declared.outcome.Outcome.TheVariants.{Sent, Dropped, Throttled, RingFull, PoolEmpty}
 use Rattle.onvm_base.specs.declared.ids.RingId.TheVariants.{Lane, Output, Mail}
-use Rattle.onvm_core.specs.declared.layout.Word.{Word}
 use Rattle.onvm_core.specs.declared.layout.Word.TheVariants.{Pool as PoolWord, Cell, Post as PostWord, Weight}
 use Rattle.onvm_core.specs.declared.entry.Entry.{Entry}
 use Rattle.onvm_core.specs.Receiving.ReceivePhase.{Between, Asks, Seeks, Sees, Took, Barred}
 use Rattle.onvm_core.specs.Sending.SendPhase.{Free, Moves as Sending, TurnsBack}
 use Rattle.onvm_core.specs.Blocks.Kind.{Receives, Sends, Handles, Ticks, Leads}
 use Rattle.onvm_core.specs.Frames.Load.{Fresh, Loaded}
-use Rattle.onvm_core.proofs.Loads.{own_load, own_load_after, HasLoad}
+use Rattle.onvm_core.proofs.Loads.{own_load, own_load_after}
 
 -- Receive roles
 

@@ -1,42 +1,36 @@
 -- A mark is raised, holds a frame, and is cleared: two frames stand in a lane whose high mark is 2, the third is throttled, the
 -- function takes the two, and the fourth is asked for in vain no more. The steps are lawful, and follow the pattern and the
 -- rules of marks passes.
-use Rattle.std.proofs.Common.{◌≡◌, ℕ, zero, suc, ◌+◌, ◌*◌, ◌<◌, ◌≤◌, ◌/◌, ◌%◌, ◌^◌, Bool, true, false, ◌⊎◌, inl, inr, List, [], ◌∷◌, refl, sym, ◌∙◌, ap, subst, arith, Option, Some, None}
-use Rattle.std.specs.Prelude.{◌==◌, IsBitSet, replicate, slice_get}
+use Rattle.std.proofs.Common.{◌≡◌, ℕ, zero, suc, ◌/◌, ◌%◌, ◌^◌, true, false, inl, inr, [], ◌∷◌, refl, sym, ◌∙◌, subst, arith, Option, Some, None}
+use Rattle.std.specs.Prelude.{◌==◌, IsBitSet, slice_get}
 use Rattle.std.proofs.lemmas.Bool.{cases_Bool, eqb-true, ne_eqb}
 use Rattle.std.proofs.lemmas.Nat.{pow_pos}
 use Rattle.std.proofs.Math.Nat.{zero-div, div-eq_of_lt}
-use Rattle.onvm_base.specs.declared.ids.BufId.{BufId}
-use Rattle.onvm_base.specs.declared.ids.FnId.{FnId}
-use Rattle.onvm_base.specs.declared.ids.PortId.{PortId}
 use Rattle.onvm_base.specs.declared.ids.RingId.TheVariants.{Lane, Output}
-use Rattle.onvm_base.specs.declared.chain.ChainStep.{ChainStep}
 use Rattle.onvm_base.specs.declared.chain.ChainStep.TheVariants.{To as Service, Out as Port}
 use Rattle.onvm_base.specs.declared.outcome.Outcome.TheVariants.{Throttled}
 use Rattle.onvm_base.specs.declared.outcome.Record.{Record}
 use Rattle.onvm_base.specs.declared.outcome.Verdict.TheVariants.{Next}
-use Rattle.onvm_base.specs.Moves.{IsOfChain, step_at}
+use Rattle.onvm_base.specs.Moves.{step_at}
 use Rattle.onvm_base.specs.Services.{instances}
 use Rattle.onvm_core.specs.declared.entry.Entry.{Entry}
 use Rattle.onvm_core.specs.declared.layout.Word.TheVariants.{Pool as PoolWord, Cell, Post as PostWord, Weight}
 use Rattle.onvm_core.specs.declared.parcel.Parcel.{Parcel}
-use Rattle.onvm_core.specs.declared.step.Act.{Act}
 use Rattle.onvm_core.specs.declared.step.Act.TheVariants.{Split, Take, Push, Pop, Look, Post}
 use Rattle.onvm_core.specs.declared.step.Item.TheVariants.{Buffer}
 use Rattle.onvm_core.specs.History.{History}
 use Rattle.onvm_core.specs.Words.{pool_bits}
 use Rattle.onvm_core.specs.Lawful.{IsLawful}
-use Rattle.onvm_core.specs.Logs.{Setting, entry_parcel, log_of}
-use Rattle.onvm_core.specs.Receiving.{IsHeld, Raises}
-use Rattle.onvm_core.specs.Handling.{SawRoom, is_push_on}
-use Rattle.onvm_core.specs.Handling.SawRoom.{ByLook, Since}
+use Rattle.onvm_core.specs.Logs.{entry_parcel, log_of}
+use Rattle.onvm_core.specs.Receiving.{IsHeld, IsOfChain, Raises}
+use Rattle.onvm_core.specs.Handling.SawRoom.{ByLook}
 use Rattle.onvm_core.specs.Blocks.{AllOfBlocks, IsOfBlocks}
-use Rattle.onvm_core.specs.Marks.{Marks, Mark, Pass, Ages, AreMarked, AllMarked, IsPaid, IsSettled, IsOwed, has_bit, is_throttled}
+use Rattle.onvm_core.specs.Marks.{Marks, Pass, Ages, AreMarked, AllMarked, IsPaid, IsSettled, IsOwed, has_bit, is_throttled}
 use Rattle.onvm_core.specs.Marks.Mark.{Passed, Posted}
 use Rattle.onvm_core.specs.Pace.{IsPaced}
-use Rattle.onvm_core.specs.Earned.{IsEarnedThrottle, IsRaised}
+use Rattle.onvm_core.specs.Earned.{IsEarnedThrottle}
 use Rattle.onvm_core.specs.Earned.IsRaised.{ByPost}
-use Rattle.onvm_base.proofs.Plans.{hasty}
+use Rattle.onvm_core.proofs.Plans.{hasty}
 use Rattle.onvm_core.proofs.Walk.{by}
 use Rattle.onvm_core.proofs.WalkLogs.{no_bit}
 use Rattle.onvm_core.proofs.Crowd.{layout, port, f, b0, b1, e1, e2, e3, e4, setting, bit_7_0, bit_6_1, lowest_7, lowest_6}
@@ -249,37 +243,85 @@ abbrev is_held : IsHeld setting e3 0 4294967297 held
 is_held = record { function = 0; raised = raises_f; lowest = λ k less. absurd (omega (arith, less)); told_is = refl }
 
 core_is : IsOfBlocks setting 2 (log_of 2 whole)
-core_is =
-    (record { own = record { known = omega arith; core = refl }; hand = record { function = f; buf = 1; parcel = entry_parcel e2 }; held = refl; function = refl; same = refl; handled = record { verdict = Next; same = refl } },
-    (record { own = record { known = omega arith; core = refl }; known = omega arith; free = refl; room = ByLook ((Push (Output f) (Buffer b0 (handled e1 0))) ∷ (Pop (Lane f 0) (Buffer b0 (entry_parcel e1))) ∷ (Look (Cell (Output f) 0) 0 None) ∷ (Look (Weight f) 0 None) ∷ []); left = omega arith },
-    (((record { known = omega arith; core = refl }, omega arith), refl),
-    (record { own = record { known = omega arith; core = refl }; hand = record { function = f; buf = 0; parcel = entry_parcel e1 }; held = refl; function = refl; same = refl; handled = record { verdict = Next; same = refl } },
-    (record { own = record { known = omega arith; core = refl }; known = omega arith; free = refl; room = ByLook ((Look (Weight f) 0 None) ∷ []); left = omega arith },
-    (((record { known = omega arith; core = refl }, omega arith), refl),
-    ((record { known = omega arith; core = refl }, refl),
-    tt)))))))
+core_is = (
+  record { own = record { known = omega arith; core = refl }; hand = record { function = f; buf = 1; parcel = entry_parcel e2 }; held = refl; function = refl; same = refl; handled = record { verdict = Next; same = refl } },
+  (
+    record { own = record { known = omega arith; core = refl }; known = omega arith; free = refl; room = ByLook ((Push (Output f) (Buffer b0 (handled e1 0))) ∷ (Pop (Lane f 0) (Buffer b0 (entry_parcel e1))) ∷ (Look (Cell (Output f) 0) 0 None) ∷ (Look (Weight f) 0 None) ∷ []); left = omega arith },
+    (
+      ((record { known = omega arith; core = refl }, omega arith), refl),
+      (
+        record { own = record { known = omega arith; core = refl }; hand = record { function = f; buf = 0; parcel = entry_parcel e1 }; held = refl; function = refl; same = refl; handled = record { verdict = Next; same = refl } },
+        (
+          record { own = record { known = omega arith; core = refl }; known = omega arith; free = refl; room = ByLook ((Look (Weight f) 0 None) ∷ []); left = omega arith },
+          (
+            ((record { known = omega arith; core = refl }, omega arith), refl),
+            (
+              (record { known = omega arith; core = refl }, refl),
+              tt,
+            ),
+          ),
+        ),
+      ),
+    ),
+  ),
+)
 
 receive_is : IsOfBlocks setting 0 (log_of 0 whole)
-receive_is =
-    (inr (e4, refl, (refl, λ k raised. no_bit k raised.bit)),
-    (inl (tt, refl),
-    (inl (tt, (omega arith, refl, omega arith, refl)),
-    (inl (tt, (omega arith, refl, omega arith, refl)),
-    (inr (e3, refl, (refl, is_held)),
-    (inl (tt, refl),
-    (inl (tt, (omega arith, refl, omega arith, refl)),
-    (inl (tt, (omega arith, refl, omega arith, refl)),
-    (inr (e2, refl, (refl, refl, record { function = f; cursor = 0; move = refl; lane = refl })),
-    (inr (e2, refl, record { known = omega arith; word = refl; shown = bit_6_1; lowest = lowest_6 }),
-    (inr (e2, refl, (refl, λ none. absurd (omega (arith, none)))),
-    (inr (e2, refl, (refl, λ k raised. no_bit k raised.bit)),
-    (inr (e2, refl, (refl, λ k raised. no_bit k raised.bit)),
-    (inr (e1, refl, (refl, refl, record { function = f; cursor = 0; move = refl; lane = refl })),
-    (inr (e1, refl, record { known = omega arith; word = refl; shown = bit_7_0; lowest = lowest_7 }),
-    (inr (e1, refl, (refl, λ none. absurd (omega (arith, none)))),
-    (inr (e1, refl, (refl, λ k raised. no_bit k raised.bit)),
-    (inr (e1, refl, (refl, λ k raised. no_bit k raised.bit)),
-    tt))))))))))))))))))
+receive_is = (
+  inr (e4, refl, (refl, λ k raised. no_bit k raised.bit)),
+  (
+    inl (tt, refl),
+    (
+      inl (tt, (omega arith, refl, omega arith, refl)),
+      (
+        inl (tt, (omega arith, refl, omega arith, refl)),
+        (
+          inr (e3, refl, (refl, is_held)),
+          (
+            inl (tt, refl),
+            (
+              inl (tt, (omega arith, refl, omega arith, refl)),
+              (
+                inl (tt, (omega arith, refl, omega arith, refl)),
+                (
+                  inr (e2, refl, (refl, refl, record { function = f; cursor = 0; move = refl; lane = refl })),
+                  (
+                    inr (e2, refl, record { known = omega arith; word = refl; shown = bit_6_1; lowest = lowest_6 }),
+                    (
+                      inr (e2, refl, (refl, λ none. absurd (omega (arith, none)))),
+                      (
+                        inr (e2, refl, (refl, λ k raised. no_bit k raised.bit)),
+                        (
+                          inr (e2, refl, (refl, λ k raised. no_bit k raised.bit)),
+                          (
+                            inr (e1, refl, (refl, refl, record { function = f; cursor = 0; move = refl; lane = refl })),
+                            (
+                              inr (e1, refl, record { known = omega arith; word = refl; shown = bit_7_0; lowest = lowest_7 }),
+                              (
+                                inr (e1, refl, (refl, λ none. absurd (omega (arith, none)))),
+                                (
+                                  inr (e1, refl, (refl, λ k raised. no_bit k raised.bit)),
+                                  (
+                                    inr (e1, refl, (refl, λ k raised. no_bit k raised.bit)),
+                                    tt,
+                                  ),
+                                ),
+                              ),
+                            ),
+                          ),
+                        ),
+                      ),
+                    ),
+                  ),
+                ),
+              ),
+            ),
+          ),
+        ),
+      ),
+    ),
+  ),
+)
 
 lead_is : IsOfBlocks setting 4 (log_of 4 whole)
 lead_is = (tt, (tt, tt))
@@ -363,26 +405,61 @@ down_is_paid : IsPaid in_time down
 down_is_paid = inl cleared_bits
 
 feeder_is : AreMarked setting 0 in_time (log_of 0 whole)
-feeder_is =
-    ((refl, down_is_paid),
-    ((refl, post_down),
-    (((refl, refl), up_is_paid),
-    (((refl, refl), up_is_paid),
-    ((refl, up_is_paid),
-    ((refl, post_up),
-    (((refl, refl), nothing_owed),
-    (((refl, refl), nothing_owed),
-    ((refl, nothing_owed),
-    ((refl, nothing_owed),
-    ((refl, nothing_owed),
-    ((refl, nothing_owed),
-    ((refl, nothing_owed),
-    ((refl, nothing_owed),
-    ((refl, nothing_owed),
-    ((refl, nothing_owed),
-    ((refl, nothing_owed),
-    ((refl, nothing_owed),
-    tt))))))))))))))))))
+feeder_is = (
+  (refl, down_is_paid),
+  (
+    (refl, post_down),
+    (
+      ((refl, refl), up_is_paid),
+      (
+        ((refl, refl), up_is_paid),
+        (
+          (refl, up_is_paid),
+          (
+            (refl, post_up),
+            (
+              ((refl, refl), nothing_owed),
+              (
+                ((refl, refl), nothing_owed),
+                (
+                  (refl, nothing_owed),
+                  (
+                    (refl, nothing_owed),
+                    (
+                      (refl, nothing_owed),
+                      (
+                        (refl, nothing_owed),
+                        (
+                          (refl, nothing_owed),
+                          (
+                            (refl, nothing_owed),
+                            (
+                              (refl, nothing_owed),
+                              (
+                                (refl, nothing_owed),
+                                (
+                                  (refl, nothing_owed),
+                                  (
+                                    (refl, nothing_owed),
+                                    tt,
+                                  ),
+                                ),
+                              ),
+                            ),
+                          ),
+                        ),
+                      ),
+                    ),
+                  ),
+                ),
+              ),
+            ),
+          ),
+        ),
+      ),
+    ),
+  ),
+)
 
 sender_is : AreMarked setting 1 in_time (log_of 1 whole)
 sender_is = tt
@@ -395,26 +472,61 @@ whole_is_marked (suc (suc k)) known = absurd (omega (arith, known))
 -- The pace: a burst is 32
 
 pub whole_is_paced : IsPaced setting 0 (log_of 0 whole)
-whole_is_paced =
-    (((λ known. omega arith), λ g. omega arith),
-    (((λ known. omega arith), λ g. omega arith),
-    (((λ known. omega arith), λ g. omega arith),
-    (((λ known. omega arith), λ g. omega arith),
-    (((λ known. omega arith), λ g. omega arith),
-    (((λ known. omega arith), λ g. omega arith),
-    (((λ known. omega arith), λ g. omega arith),
-    (((λ known. omega arith), λ g. omega arith),
-    (((λ known. omega arith), λ g. omega arith),
-    (((λ known. omega arith), λ g. omega arith),
-    (((λ known. omega arith), λ g. omega arith),
-    (((λ known. omega arith), λ g. omega arith),
-    (((λ known. omega arith), λ g. omega arith),
-    (((λ known. omega arith), λ g. omega arith),
-    (((λ known. omega arith), λ g. omega arith),
-    (((λ known. omega arith), λ g. omega arith),
-    (((λ known. omega arith), λ g. omega arith),
-    (((λ known. omega arith), λ g. omega arith),
-    tt))))))))))))))))))
+whole_is_paced = (
+  ((λ known. omega arith), λ g. omega arith),
+  (
+    ((λ known. omega arith), λ g. omega arith),
+    (
+      ((λ known. omega arith), λ g. omega arith),
+      (
+        ((λ known. omega arith), λ g. omega arith),
+        (
+          ((λ known. omega arith), λ g. omega arith),
+          (
+            ((λ known. omega arith), λ g. omega arith),
+            (
+              ((λ known. omega arith), λ g. omega arith),
+              (
+                ((λ known. omega arith), λ g. omega arith),
+                (
+                  ((λ known. omega arith), λ g. omega arith),
+                  (
+                    ((λ known. omega arith), λ g. omega arith),
+                    (
+                      ((λ known. omega arith), λ g. omega arith),
+                      (
+                        ((λ known. omega arith), λ g. omega arith),
+                        (
+                          ((λ known. omega arith), λ g. omega arith),
+                          (
+                            ((λ known. omega arith), λ g. omega arith),
+                            (
+                              ((λ known. omega arith), λ g. omega arith),
+                              (
+                                ((λ known. omega arith), λ g. omega arith),
+                                (
+                                  ((λ known. omega arith), λ g. omega arith),
+                                  (
+                                    ((λ known. omega arith), λ g. omega arith),
+                                    tt,
+                                  ),
+                                ),
+                              ),
+                            ),
+                          ),
+                        ),
+                      ),
+                    ),
+                  ),
+                ),
+              ),
+            ),
+          ),
+        ),
+      ),
+    ),
+  ),
+)
 
 -- with a burst of one the second block may not begin before a marks pass
 pub not_in_haste : IsPaced (record setting { plan = hasty }) 0 (log_of 0 h8) → ⊥

@@ -15,6 +15,7 @@ pub mod Logged
 pub mod Marked
 pub mod Once
 pub mod Phases
+pub mod Plans
 pub mod Scanned
 pub mod Sums
 pub mod Throttling

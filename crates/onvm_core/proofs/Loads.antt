@@ -1,7 +1,7 @@
 -- What is in a buffer is what its holder's log, or its ring, says.
-use Rattle.std.proofs.Common.{◌≡◌, ◌≢◌, ℕ, ◌+◌, ◌-◌, ◌*◌, ◌<◌, ◌≤◌, zero, suc, zero-add, add-zero, Bool, true, false, ◌⊎◌, inl, inr, List, [], ◌∷◌, ◌++◌, length, drop, refl, sym, ◌∙◌, ap, subst, arith, Option, Some, None}
-use Rattle.std.specs.Prelude.{slice_get, if◌then◌else◌, ◌==◌, nat_lt, not, unwrap_or}
-use Rattle.std.proofs.lemmas.Bool.{cases_Bool, and_parts, eqb-true, eqb-false, eq-eqb, ne_eqb, cases_order}
+use Rattle.std.proofs.Common.{◌≡◌, ℕ, ◌≤◌, true, false, ◌⊎◌, inl, inr, List, [], ◌∷◌, ◌++◌, refl, sym, ◌∙◌, ap, subst, arith, Option, Some, None}
+use Rattle.std.specs.Prelude.{slice_get, ◌==◌, unwrap_or}
+use Rattle.std.proofs.lemmas.Bool.{cases_Bool, eqb-true, eqb-false, eq-eqb}
 use Rattle.onvm_base.specs.declared.ids.RingId.{RingId}
 use Rattle.onvm_base.specs.declared.ids.BufId.{BufId}
 use Rattle.onvm_base.specs.declared.ids.FrameId.{FrameId}
@@ -14,14 +14,14 @@ use Rattle.onvm_core.specs.declared.step.Act.TheVariants.{Split, Join, Take, Giv
 use Rattle.onvm_core.specs.declared.step.Step.{Step}
 use Rattle.onvm_core.specs.declared.place.Place.{Place}
 use Rattle.onvm_core.specs.declared.place.Place.TheVariants.{Pool, Ring, Role}
-use Rattle.onvm_core.specs.Layouts.{same_ring, IsBuffer}
-use Rattle.onvm_core.specs.History.{History, pushes, pops, pushed_on, popped_from, content_of, place_of, puts}
-use Rattle.onvm_core.specs.Lawful.{AllowsAct, Allows, IsLawful, Suits, Holds}
-use Rattle.onvm_core.specs.Places.{is_buffer, how_many, one_if, same_place, once_at}
+use Rattle.onvm_core.specs.Layouts.{same_ring}
+use Rattle.onvm_core.specs.History.{History, pushes, pops, popped_from, content_of, place_of, puts}
+use Rattle.onvm_core.specs.Lawful.{AllowsAct, IsLawful}
+use Rattle.onvm_core.specs.Places.{is_buffer, how_many, one_if, same_place}
 use Rattle.onvm_core.specs.Logs.{Setting, Log, log_of}
-use Rattle.onvm_core.specs.Frames.{Load, load, load_of, load_after, block_frame}
+use Rattle.onvm_core.specs.Frames.{Load, load, load_after, block_frame}
 use Rattle.onvm_core.specs.Frames.Load.{Fresh, Loaded}
-use Rattle.onvm_core.proofs.Contents.{same_ring_is, content_moves}
+use Rattle.onvm_core.proofs.Contents.{content_moves}
 use Rattle.onvm_core.proofs.Once.{source, Moves, named_from, in_ring_once, same_place_is, some_once}
 
 -- an act that names no buffer b leaves what is in b

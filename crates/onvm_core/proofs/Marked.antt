@@ -1,22 +1,19 @@
 -- A post with a function's bit stands only while the passes say so.
-use Rattle.std.proofs.Common.{◌≡◌, ◌≢◌, ℕ, ◌+◌, ◌-◌, ◌*◌, ◌/◌, ◌%◌, ◌^◌, ◌<◌, ◌≤◌, zero, suc, Bool, true, false, ◌⊎◌, inl, inr, List, [], ◌∷◌, ◌++◌, length, refl, sym, ◌∙◌, ap, subst, arith, Option, Some, None}
-use Rattle.std.specs.Prelude.{if◌then◌else◌, ◌==◌, ◌&&◌, ◌||◌, not, IsBitSet}
+use Rattle.std.proofs.Common.{◌≡◌, ◌≢◌, ℕ, ◌+◌, ◌/◌, ◌%◌, ◌^◌, ◌<◌, ◌≤◌, Bool, true, false, inl, inr, List, [], ◌∷◌, refl, sym, ◌∙◌, ap, subst, arith}
+use Rattle.std.specs.Prelude.{if◌then◌else◌, ◌==◌, ◌&&◌, ◌||◌, IsBitSet}
 use Rattle.std.proofs.lemmas.Bool.{cases_Bool, and_parts, or_cases, eqb-true, eqb-false, eq-eqb, ne_eqb}
 use Rattle.std.proofs.lemmas.Nat.{bit_set_by_shift}
 use Rattle.std.proofs.lemmas.Nat.Bits.{shr_and_one, bit_at-zero}
 use Rattle.onvm_base.specs.declared.ids.RingId.TheVariants.{Lane, Output, Mail}
-use Rattle.onvm_base.specs.declared.outcome.Record.{Record}
 use Rattle.onvm_core.specs.declared.layout.Layout.{Layout}
-use Rattle.onvm_core.specs.declared.layout.Word.{Word}
 use Rattle.onvm_core.specs.declared.layout.Word.TheVariants.{Pool as PoolWord, Cell, Post as PostWord, Weight}
 use Rattle.onvm_core.specs.declared.step.Act.{Act}
 use Rattle.onvm_core.specs.declared.step.Act.TheVariants.{Split, Join, Take, Give, Push, Full, Pop, Empty, Look, Post}
-use Rattle.onvm_core.specs.declared.step.Step.{Step}
-use Rattle.onvm_core.specs.Layouts.{IsFeeder, same_word, tick_role}
+use Rattle.onvm_core.specs.Layouts.{IsFeeder}
 use Rattle.onvm_core.specs.History.{History, posted_on, post_or}
 use Rattle.onvm_core.specs.Lawful.{AllowsAct, IsLawful}
 use Rattle.onvm_core.specs.Logs.{Setting, Log, log_of}
-use Rattle.onvm_core.specs.Marks.{Want, Pass, Mark, Marks, Ages, Standing, posts_in, last_post, pass_count, finds, is_throttled, has_bit, last_number, IsSettled, IsPaid, IsOwed, next_looks, look_made, stands_after, standing, MayMark, AreMarked}
+use Rattle.onvm_core.specs.Marks.{Want, Pass, Marks, Ages, Standing, posts_in, last_post, pass_count, finds, is_throttled, has_bit, last_number, IsSettled, IsPaid, IsOwed, next_looks, look_made, stands_after, standing, MayMark, AreMarked}
 use Rattle.onvm_core.specs.Marks.Mark.{Passed, Posted}
 use Rattle.onvm_core.specs.Earned.{IsRaised, IsRaisedUpToNow, Clears, ClearsAtOnce, IsDue, IsPostWithout, IsLaneLook}
 use Rattle.onvm_core.specs.Earned.IsRaised.{ByPost, ByAnotherPost, ByPass}

@@ -1,13 +1,12 @@
 -- Each throttle is earned.
-use Rattle.std.proofs.Common.{◌≡◌, ℕ, ◌+◌, ◌/◌, ◌^◌, true, ◌⊎◌, inl, inr, List, [], ◌∷◌, refl, sym, ◌∙◌, ap, subst, Option, Some, None}
+use Rattle.std.proofs.Common.{◌≡◌, ℕ, ◌/◌, ◌^◌, true, inl, inr, [], ◌∷◌, refl, sym, ◌∙◌, ap, subst, Some}
 use Rattle.onvm_base.specs.declared.ids.FnId.{FnId}
 use Rattle.onvm_base.specs.declared.outcome.Record.{Record}
 use Rattle.onvm_base.specs.declared.outcome.Outcome.{Outcome}
-use Rattle.onvm_base.specs.declared.outcome.Outcome.TheVariants.{Throttled, PoolEmpty}
+use Rattle.onvm_base.specs.declared.outcome.Outcome.TheVariants.{Throttled}
 use Rattle.onvm_core.specs.declared.entry.Entry.{Entry}
 use Rattle.onvm_core.specs.declared.layout.Word.{Word}
 use Rattle.onvm_core.specs.declared.layout.Word.TheVariants.{Post as PostWord}
-use Rattle.onvm_core.specs.declared.step.Act.{Act}
 use Rattle.onvm_core.specs.declared.step.Act.TheVariants.{Look}
 use Rattle.onvm_core.specs.declared.step.Step.{Step}
 use Rattle.onvm_core.specs.Layouts.{IsFeeder}
@@ -15,7 +14,7 @@ use Rattle.onvm_core.specs.History.{History}
 use Rattle.onvm_core.specs.Lawful.{AllowsAct, IsLawful}
 use Rattle.onvm_core.specs.Records.{recorded}
 use Rattle.onvm_core.specs.Words.{value_of}
-use Rattle.onvm_core.specs.Logs.{Setting, Log, log_of, frame_after}
+use Rattle.onvm_core.specs.Logs.{Setting, log_of, frame_after}
 use Rattle.onvm_core.specs.Receiving.{IsHeld}
 use Rattle.onvm_core.specs.Blocks.{AllOfBlocks}
 use Rattle.onvm_core.specs.Marks.{Marks, Ages, AllMarked, has_bit, last_post, standing}
@@ -40,15 +39,17 @@ look_earned setting aged step before told k seen e lawful marked acts held =
     let shows : seen ≡ value_of setting.layout before (PostWord k) = allowed.true_value in
     let marks : Marks = (standing setting k (log_of k before)).marks in
     let last : seen ≡ last_post marks = shows ∙ posted_is setting k before known lawful.1 in
-    let bit : has_bit (last_post marks) held.function ≡ true = subst (λ (n : ℕ). has_bit n held.function ≡ true) last (bit_of_set seen held.function held.raised.bit) in
-    (acts ∙ ap (λ (n : ℕ). Look (PostWord k) n (Some told)) shows, record {
-      seen = seen;
-      shown = sym shows;
-      number = refl;
-      held = held;
-      names = refl;
-      raised = raised_now (aged k) held.function marks (marks_paid setting k (aged k) (log_of k before) (marked k known)) bit;
-    })
+    let bit : has_bit (last_post marks) held.function ≡ true = subst (λ (n : ℕ). has_bit n held.function ≡ true) last (bit_of_set seen held.function held.raised.bit) in (
+      acts ∙ ap (λ (n : ℕ). Look (PostWord k) n (Some told)) shows,
+      record {
+        seen = seen;
+        shown = sym shows;
+        number = refl;
+        held = held;
+        names = refl;
+        raised = raised_now (aged k) held.function marks (marks_paid setting k (aged k) (log_of k before) (marked k known)) bit;
+      },
+    )
 
 named_so : (setting : Setting) (aged : ℕ → Ages) (step : Step) (before : History) (told : Record) (k n p m : ℕ) (f g : FnId) → ◌≡◌ {A = Outcome} (Throttled k n f) (Throttled p m g) → TellsThrottle setting aged step before told k n f.0 → TellsThrottle setting aged step before told p m g.0
 named_so setting aged step before told k n p m f g e h =

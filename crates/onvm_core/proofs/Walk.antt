@@ -1,11 +1,10 @@
 -- One frame from its capture to its transmission, through one function that answers Next: 17 steps, which are lawful.
 -- So the laws speak of something.
-use Rattle.std.proofs.Common.{◌≡◌, ◌≢◌, ℕ, ◌^◌, true, false, inl, inr, List, [], ◌∷◌, refl, sym, ◌∙◌, arith, Option, Some, None}
+use Rattle.std.proofs.Common.{◌≡◌, ◌≢◌, ℕ, inl, inr, [], ◌∷◌, refl, sym, ◌∙◌, arith, None}
 use Rattle.std.specs.Prelude.{◌==◌, replicate, IsBitSet}
 use Rattle.std.proofs.lemmas.Bool.{cases_Bool}
 use Rattle.onvm_base.specs.declared.ids.BufId.{BufId}
 use Rattle.onvm_base.specs.declared.ids.FnId.{FnId}
-use Rattle.onvm_base.specs.declared.ids.RingId.{RingId}
 use Rattle.onvm_base.specs.declared.ids.RingId.TheVariants.{Lane, Output}
 use Rattle.onvm_base.specs.declared.outcome.Outcome.TheVariants.{Sent}
 use Rattle.onvm_base.specs.declared.outcome.Verdict.TheVariants.{Next}
@@ -16,12 +15,10 @@ use Rattle.onvm_core.specs.declared.step.Act.{Act}
 use Rattle.onvm_core.specs.declared.step.Act.TheVariants.{Split, Join, Take, Give, Push, Pop, Look}
 use Rattle.onvm_core.specs.declared.step.Item.TheVariants.{Buffer}
 use Rattle.onvm_core.specs.declared.step.Step.{Step}
-use Rattle.onvm_core.specs.declared.place.Place.{Place}
-use Rattle.onvm_core.specs.declared.place.Place.TheVariants.{Pool, Ring, Role}
-use Rattle.onvm_core.specs.Layouts.{IsBuffer}
+use Rattle.onvm_core.specs.declared.place.Place.TheVariants.{Pool, Role}
 use Rattle.onvm_core.specs.History.{History, place_of}
-use Rattle.onvm_core.specs.Words.{pool_bits, value_of}
-use Rattle.onvm_core.specs.Lawful.{HoldsNothing, IsLawful}
+use Rattle.onvm_core.specs.Words.{pool_bits}
+use Rattle.onvm_core.specs.Lawful.{IsLawful}
 
 -- a port, a transmit role, a core, a function; 1024 buffers, rings of 128
 abbrev pub layout : Layout

@@ -1,18 +1,17 @@
 -- The walk of one frame follows the pattern of each role's log.
-use Rattle.std.proofs.Common.{◌≡◌, ℕ, ◌+◌, ◌<◌, ◌≤◌, ◌^◌, Bool, true, false, ◌⊎◌, inl, inr, List, [], ◌∷◌, refl, sym, subst, arith, Option, Some, None}
-use Rattle.std.specs.Prelude.{◌==◌, IsBitSet, slice_get}
+use Rattle.std.proofs.Common.{◌≡◌, ℕ, ◌^◌, true, inl, inr, [], ◌∷◌, refl, subst, arith, None}
+use Rattle.std.specs.Prelude.{◌==◌, IsBitSet}
 use Rattle.std.specs.Int.Bits.{and_zero_l}
 use Rattle.std.proofs.lemmas.Bool.{cases_Bool, eqb-true}
 use Rattle.onvm_base.specs.declared.outcome.Verdict.TheVariants.{Next}
 use Rattle.onvm_core.specs.declared.entry.Entry.{Entry}
-use Rattle.onvm_core.specs.declared.layout.Word.TheVariants.{Pool as PoolWord, Cell, Post as PostWord, Weight}
-use Rattle.onvm_core.specs.declared.step.Act.TheVariants.{Look, Push}
-use Rattle.onvm_core.specs.Logs.{IsNumbered, Setting, frame_after, log_of}
-use Rattle.onvm_core.specs.Handling.{SawRoom}
+use Rattle.onvm_core.specs.declared.layout.Word.TheVariants.{Weight}
+use Rattle.onvm_core.specs.declared.step.Act.TheVariants.{Look}
+use Rattle.onvm_core.specs.Logs.{Setting, log_of}
 use Rattle.onvm_core.specs.Handling.SawRoom.{ByLook}
 use Rattle.onvm_core.specs.Blocks.{AllOfBlocks, IsOfBlocks}
-use Rattle.onvm_base.proofs.Plans.{smallest}
-use Rattle.onvm_core.proofs.Walk.{layout, entered, handled, f, first_bit, walk}
+use Rattle.onvm_core.proofs.Plans.{smallest}
+use Rattle.onvm_core.proofs.Walk.{layout, entered, f, first_bit, walk}
 
 abbrev pub entry : Entry
 entry = record { frame = entered.frame; stamp = entered.stamp; packet = entered.packet; chain = entered.chain; hash = entered.hash }
@@ -24,40 +23,59 @@ pub no_bit : (k : ℕ) → ¬ IsBitSet 0 k
 no_bit k h = h (and_zero_l (2 ^ k))
 
 receive_is : IsOfBlocks setting 0 (log_of 0 walk)
-receive_is =
-    (inr (entry, refl, (refl, refl, record { function = f; cursor = 0; move = refl; lane = refl })),
-    (inr (entry, refl, record { known = omega arith; word = refl; shown = first_bit; lowest = λ k less. absurd (omega (arith, less)) }),
-    (inr (entry, refl, (refl, λ none. absurd (omega (arith, none)))),
-    (inr (entry, refl, (refl, λ k raised. no_bit k raised.bit)),
-    (inr (entry, refl, (refl, λ k raised. no_bit k raised.bit)),
-    tt)))))
+receive_is = (
+  inr (entry, refl, (refl, refl, record { function = f; cursor = 0; move = refl; lane = refl })),
+  (
+    inr (entry, refl, record { known = omega arith; word = refl; shown = first_bit; lowest = λ k less. absurd (omega (arith, less)) }),
+    (
+      inr (entry, refl, (refl, λ none. absurd (omega (arith, none)))),
+      (
+        inr (entry, refl, (refl, λ k raised. no_bit k raised.bit)),
+        (
+          inr (entry, refl, (refl, λ k raised. no_bit k raised.bit)),
+          tt,
+        ),
+      ),
+    ),
+  ),
+)
 
 core_is : IsOfBlocks setting 2 (log_of 2 walk)
-core_is =
-    (record {
-      own = record { known = omega arith; core = refl };
-      hand = record { function = f; buf = 0; parcel = entered };
-      held = refl;
-      function = refl;
-      same = refl;
-      handled = record { verdict = Next; same = refl };
-    },
-    (record {
+core_is = (
+  record {
+    own = record { known = omega arith; core = refl };
+    hand = record { function = f; buf = 0; parcel = entered };
+    held = refl;
+    function = refl;
+    same = refl;
+    handled = record { verdict = Next; same = refl };
+  },
+  (
+    record {
       own = record { known = omega arith; core = refl };
       known = omega arith;
       free = refl;
       room = ByLook (Look (Weight f) 0 None ∷ []);
       left = omega arith;
     },
-    (((record { known = omega arith; core = refl }, omega arith), refl),
-    ((record { known = omega arith; core = refl }, refl),
-    tt))))
+    (
+      ((record { known = omega arith; core = refl }, omega arith), refl),
+      (
+        (record { known = omega arith; core = refl }, refl),
+        tt,
+      ),
+    ),
+  ),
+)
 
 send_is : IsOfBlocks setting 1 (log_of 1 walk)
-send_is =
-    ((refl, record { crumb = record { function = f; place = 0; verdict = Next }; last = refl; moved = refl }, refl),
-    (record { known = omega arith; consumes = refl },
-    tt))
+send_is = (
+  (refl, record { crumb = record { function = f; place = 0; verdict = Next }; last = refl; moved = refl }, refl),
+  (
+    record { known = omega arith; consumes = refl },
+    tt,
+  ),
+)
 
 lead_is : IsOfBlocks setting 4 (log_of 4 walk)
 lead_is = (tt, (tt, (tt, (tt, (tt, (tt, tt))))))

@@ -1,5 +1,5 @@
 -- What each record tells, and that it is true: throttles and overflows are earned, drops and sends are the move's.
-use Rattle.std.specs.Prelude.{ℕ, zero, suc, ◌≡◌, ◌≢◌, ◌+◌, ◌*◌, ◌/◌, ◌^◌, ◌≤◌, ◌⊎◌, true, false, List, [], ◌∷◌, Option, Some, None}
+use Rattle.std.specs.Prelude.{ℕ, zero, suc, ◌≡◌, ◌≢◌, ◌+◌, ◌*◌, ◌/◌, ◌^◌, ◌≤◌, ◌⊎◌, true, false, [], ◌∷◌, Some, None}
 use Rattle.onvm_base.specs.declared.ids.FnId.{FnId}
 use Rattle.onvm_base.specs.declared.ids.RingId.{RingId}
 use Rattle.onvm_base.specs.declared.ids.RingId.TheVariants.{Lane}
@@ -15,13 +15,12 @@ use Rattle.onvm_core.specs.declared.parcel.Crumb.{Crumb}
 use Rattle.onvm_core.specs.declared.parcel.Parcel.{Parcel}
 use Rattle.onvm_core.specs.declared.step.Act.{Act}
 use Rattle.onvm_core.specs.declared.step.Act.TheVariants.{Give, Full, Look, Post}
-use Rattle.onvm_core.specs.declared.step.Step.{Step}
 use Rattle.onvm_core.specs.History.{History}
 use Rattle.onvm_core.specs.Words.{value_of}
-use Rattle.onvm_core.specs.Logs.{Setting, Log, log_of, frame_after, last_crumb}
+use Rattle.onvm_core.specs.Logs.{Setting, Log, log_of, last_crumb}
 use Rattle.onvm_core.specs.Receiving.{IsHeld}
 use Rattle.onvm_core.specs.Sending.{IsNext}
-use Rattle.onvm_core.specs.Marks.{Marks, Mark, Pass, Ages, IsPaid, finds, has_bit, last_post, standing}
+use Rattle.onvm_core.specs.Marks.{Marks, Pass, Ages, IsPaid, finds, has_bit, last_post, standing}
 use Rattle.onvm_core.specs.Marks.Mark.{Passed, Posted}
 
 -- Throttles

@@ -1,11 +1,9 @@
 -- The marks passes of a feeder: what it finds in its lanes, what it posts, and when.
 use Rattle.std.specs.Prelude.{ℕ, zero, suc, ◌≡◌, ◌+◌, ◌-◌, ◌/◌, ◌%◌, ◌^◌, ◌<◌, ◌≤◌, ◌⊎◌, Bool, true, false, not, ◌==◌, ◌&&◌, ◌||◌, nat_le, if◌then◌else◌, List, [], ◌∷◌, ◌++◌}
-use Rattle.onvm_base.specs.declared.ids.FnId.{FnId}
-use Rattle.onvm_base.specs.declared.ids.RingId.{RingId}
-use Rattle.onvm_base.specs.declared.ids.RingId.TheVariants.{Lane, Output}
-use Rattle.onvm_core.specs.declared.layout.Word.TheVariants.{Cell, Post as PostWord}
+use Rattle.onvm_base.specs.declared.ids.RingId.TheVariants.{Lane}
+use Rattle.onvm_core.specs.declared.layout.Word.TheVariants.{Cell}
 use Rattle.onvm_core.specs.declared.step.Act.{Act}
-use Rattle.onvm_core.specs.declared.step.Act.TheVariants.{Pop, Look, Post}
+use Rattle.onvm_core.specs.declared.step.Act.TheVariants.{Look, Post}
 use Rattle.onvm_core.specs.Layouts.{IsFeeder}
 use Rattle.onvm_core.specs.History.{History}
 use Rattle.onvm_core.specs.Logs.{Setting, Log, log_of, push_count}

@@ -98,7 +98,7 @@ pub fn t3_5()
         → (e : Entry) × (done : ℕ) × (frame_after setting step.role done ≡ Some e)
         × (told.frame ≡ e.frame)
         × (step.act ≡ Look (PostWord feeder)
-            (value_of setting.layout before (PostWord feeder)) (Some told))
+        (value_of setting.layout before (PostWord feeder)) (Some told))
         × IsEarnedThrottle setting aged before e told feeder post function.0 }
     ensures shown { (setting : Setting) (past : History) (feeder : ℕ)
         → IsLawful setting.layout past → IsFeeder setting.layout feeder

@@ -1,21 +1,14 @@
 -- Small plans that keep the rules, so that there are plans.
-use Rattle.std.proofs.Common.{◌≡◌, ◌≢◌, ℕ, ◌<◌, ◌≤◌, zero, suc, true, List, [], ◌∷◌, length, refl, sym, ◌∙◌, subst, arith, Option, Some, None}
+use Rattle.std.proofs.Common.{◌≡◌, ◌≢◌, ℕ, ◌<◌, ◌≤◌, true, List, [], ◌∷◌, refl, subst, arith, Some}
 use Rattle.std.specs.Prelude.{slice_get, All}
 use Rattle.std.proofs.lemmas.List.Elements.{All-cons, All-nil}
 use Rattle.std.proofs.lemmas.Option.{slice_get_within}
-use Rattle.onvm_base.specs.declared.ids.ChainId.{ChainId}
-use Rattle.onvm_base.specs.declared.rules.Prefix.{Prefix}
-use Rattle.onvm_base.specs.declared.rules.RulePlan.{RulePlan}
-use Rattle.onvm_base.specs.declared.rules.Tests.{Tests}
 use Rattle.onvm_base.specs.declared.chain.ChainPlan.{ChainPlan}
-use Rattle.onvm_base.specs.declared.chain.ChainStep.{ChainStep}
 use Rattle.onvm_base.specs.declared.chain.ChainStep.TheVariants.{To as Service, Out as Port}
 use Rattle.onvm_base.specs.declared.function.FunctionPlan.{FunctionPlan}
-use Rattle.onvm_base.specs.declared.function.Kind.{Kind}
 use Rattle.onvm_base.specs.declared.function.Kind.TheVariants.{Forward, Filter, Tag, Route, Balance, Police, Nat, Guest}
-use Rattle.onvm_base.specs.declared.function.RouteEntry.{RouteEntry}
 use Rattle.onvm_base.specs.declared.plan.Plan.{Plan}
-use Rattle.onvm_base.specs.Plan.{IsFrom, AreDifferent, AreSizes, IsChainPlan, IsFunction, IsKind, IsName, IsPlan, IsRule, IsStep, Sizes, is_name_character}
+use Rattle.onvm_base.specs.Plan.{IsFrom, AreDifferent, IsChainPlan, IsFunction, IsKind, IsName, IsRule, IsStep, is_name_character}
 use Rattle.onvm_base.specs.Services.{instances}
 
 pub one : {A : Type 0} (P : A → Type 0) (x : A) → P x → All P (x ∷ [])
@@ -68,14 +61,14 @@ is_through letter service functions named offered = record {
   name = is_letter letter named;
   length_of = (omega arith, omega arith);
   steps = two (IsStep 1 functions) (Service service) (Port 0)
-  (record {
-    service = λ other e. let same : service ≡ other = cc in subst (λ s. instances s functions ≢ []) same offered;
-    port = λ port e. absurd (let off : Service service ≡ Port port = e in cc);
-  })
-  (record {
-    service = λ other e. absurd (let off : Port 0 ≡ Service other = e in cc);
-    port = λ port e. let same : 0 ≡ port = cc in omega (arith, same);
-  });
+      (record {
+        service = λ other e. let same : service ≡ other = cc in subst (λ s. instances s functions ≢ []) same offered;
+        port = λ port e. absurd (let off : Service service ≡ Port port = e in cc);
+      })
+      (record {
+        service = λ other e. absurd (let off : Port 0 ≡ Service other = e in cc);
+        port = λ port e. let same : 0 ≡ port = cc in omega (arith, same);
+      });
 }
 
 -- no two places below 1
@@ -192,8 +185,8 @@ narrow_by burst few = record {
     functions_differ = pairs AreDifferent (forwarding 102 1) (forwarding 103 2) differ_is;
     chain_count = (omega arith, omega arith);
     chains_are = two (IsChainPlan 1 (forwarding 102 1 ∷ forwarding 103 2 ∷ [])) (through 97 1) (through 98 2)
-    (is_through 97 1 (forwarding 102 1 ∷ forwarding 103 2 ∷ []) refl (λ e. cc))
-    (is_through 98 2 (forwarding 102 1 ∷ forwarding 103 2 ∷ []) refl (λ e. cc));
+        (is_through 97 1 (forwarding 102 1 ∷ forwarding 103 2 ∷ []) refl (λ e. cc))
+        (is_through 98 2 (forwarding 102 1 ∷ forwarding 103 2 ∷ []) refl (λ e. cc));
     chains_differ = pairs (λ c d. c.name ≢ d.name) (through 97 1) (through 98 2) (λ e. let n : ◌≡◌ {A = ℕ} 97 98 = cc in omega (arith, n));
     rule_count = omega arith;
     rules_are = All-nil (IsRule 2);
