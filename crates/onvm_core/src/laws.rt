@@ -95,7 +95,7 @@ pub fn t3_5()
         → (e : Entry) × (done : ℕ) × (frame_after setting step.role done ≡ Some e)
         × (told.frame ≡ e.frame)
         × (step.act ≡ Look (PostWord feeder)
-            (value_of setting.layout before (PostWord feeder)) (Some told))
+        (value_of setting.layout before (PostWord feeder)) (Some told))
         × IsEarnedThrottle setting aged before e told feeder post function.0 }
     ensures shown { (setting : Setting) (past : History) (feeder : ℕ)
         → IsLawful setting.layout past → IsFeeder setting.layout feeder
@@ -134,7 +134,8 @@ pub fn t3_5()
 pub fn t3_7()
     ensures counted { (setting : Setting) (past : History) (f : FnId) → IsLayout setting.layout
         → f.0 < setting.layout.functions
-        → IsOfBlocks setting (core_role setting.layout f.0) (log_of (core_role setting.layout f.0) past)
+        → IsOfBlocks setting (core_role setting.layout f.0)
+        (log_of (core_role setting.layout f.0) past)
         → AreSamples (log_of (core_role setting.layout f.0) past)
         → mailed_count f (log_of (core_role setting.layout f.0) past)
         + lost_count f (log_of (core_role setting.layout f.0) past)
@@ -142,7 +143,8 @@ pub fn t3_7()
         ≡ length (journal_of setting past f) }
     ensures complete { (setting : Setting) (past : History) (f : FnId) → IsLayout setting.layout
         → f.0 < setting.layout.functions
-        → IsOfBlocks setting (core_role setting.layout f.0) (log_of (core_role setting.layout f.0) past)
+        → IsOfBlocks setting (core_role setting.layout f.0)
+        (log_of (core_role setting.layout f.0) past)
         → AreSamples (log_of (core_role setting.layout f.0) past)
         → is_sampled f (log_of (core_role setting.layout f.0) past) ≡ true
         → mailed_count f (log_of (core_role setting.layout f.0) past)
