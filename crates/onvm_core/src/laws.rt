@@ -137,7 +137,8 @@ pub fn t3_5()
 pub fn t3_7()
     ensures counted { (setting : Setting) (past : History) (f : FnId) → IsLayout setting.layout
         → f.0 < setting.layout.functions
-        → IsOfBlocks setting (core_role setting.layout f.0) (log_of (core_role setting.layout f.0) past)
+        → IsOfBlocks setting (core_role setting.layout f.0)
+        (log_of (core_role setting.layout f.0) past)
         → AreSamples (log_of (core_role setting.layout f.0) past)
         → mailed_count f (log_of (core_role setting.layout f.0) past)
         + lost_count f (log_of (core_role setting.layout f.0) past)
@@ -145,7 +146,8 @@ pub fn t3_7()
         ≡ length (journal_of setting past f) }
     ensures complete { (setting : Setting) (past : History) (f : FnId) → IsLayout setting.layout
         → f.0 < setting.layout.functions
-        → IsOfBlocks setting (core_role setting.layout f.0) (log_of (core_role setting.layout f.0) past)
+        → IsOfBlocks setting (core_role setting.layout f.0)
+        (log_of (core_role setting.layout f.0) past)
         → AreSamples (log_of (core_role setting.layout f.0) past)
         → is_sampled f (log_of (core_role setting.layout f.0) past) ≡ true
         → mailed_count f (log_of (core_role setting.layout f.0) past)
