@@ -1,2 +1,6 @@
 pub mod Bytes
+pub mod Checksum
+pub mod Edits
+pub mod Flow
 pub mod Heads
+pub mod Within
