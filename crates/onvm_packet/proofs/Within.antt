@@ -1,6 +1,6 @@
 -- A network head that is read lies in the frame.
 use Rattle.std.proofs.Common.{◌≡◌, ◌∙◌, sym, ap, subst, ℕ, ◌+◌, ◌*◌, ◌/◌, ◌≤◌, Bool, true, List, length, arith, nat_le, ◌==◌, ◌&&◌}
-use Rattle.std.proofs.lemmas.Bool.{and_parts, leb-true, cond_both}
+use Rattle.std.proofs.lemmas.Bool.{and_parts, eqb-true, leb-true, cond_both}
 use Rattle.onvm_packet.specs.Heads.{heads_of, is_ipv4, is_ipv6, ipv4_at, ipv6_at, net_at, net_of, type_at, words_at}
 use Rattle.onvm_packet.specs.Bytes.{byte, number}
 use Rattle.onvm_packet.specs.Within.{IsIpv4Within, IsWithin}
@@ -10,9 +10,16 @@ use Rattle.onvm_packet.specs.declared.heads.Net.TheVariants as net
 
 pub ipv4_within : (at : ℕ) (bytes : List ℕ) → is_ipv4 at bytes ≡ true → IsIpv4Within at bytes
 ipv4_within at bytes is =
-    let split = and_parts (nat_le (at + 20) (length bytes) && (byte at bytes / 16 == 4) && nat_le 5 (words_at at bytes)) (nat_le (at + 4 * words_at at bytes) (length bytes)) is in
-    let front = and_parts (nat_le (at + 20) (length bytes) && (byte at bytes / 16 == 4)) (nat_le 5 (words_at at bytes)) split.0 in
-    record { least = leb-true _ _ front.1; whole = leb-true _ _ split.1 }
+    let short : Bool = nat_le (at + 20) (length bytes) in
+    let four : Bool = byte at bytes / 16 == 4 in
+    let five : Bool = nat_le 5 (words_at at bytes) in
+    let last = and_parts ((short && four) && five) (nat_le (at + 4 * words_at at bytes) (length bytes)) is in
+    let middle = and_parts (short && four) five last.0 in
+    record {
+      version = eqb-true _ _ (and_parts short four middle.0).1;
+      least = leb-true _ _ middle.1;
+      whole = leb-true _ _ last.1;
+    }
 
 pub ipv6_within : (at : ℕ) (bytes : List ℕ) → is_ipv6 at bytes ≡ true → at + 40 ≤ length bytes
 ipv6_within at bytes is = leb-true _ _ (and_parts (nat_le (at + 40) (length bytes)) (byte at bytes / 16 == 6) is).0

@@ -1,5 +1,5 @@
 -- A part of a list that is written over item by item, and parts one behind the other.
-use Rattle.std.proofs.Common.{◌≡◌, ◌∙◌, sym, ap, ℕ, ◌+◌, ◌<◌, ◌≤◌, List, [], ◌∷◌, ◌++◌, length, take, drop, set, get_or, append_assoc, refl, arith}
+use Rattle.std.proofs.Common.{◌≡◌, ◌∙◌, sym, ap, ℕ, suc, ◌+◌, ◌<◌, ◌≤◌, List, [], ◌∷◌, ◌++◌, length, take, drop, set, get_or, append_assoc, refl, arith}
 use Rattle.std.proofs.lemmas.List.{take_at, drop_at, drop-drop, drop_more, take_more, set_at, set_split, length-append, length-take-le}
 use Rattle.onvm_packet.specs.Edits.{written}
 
@@ -36,4 +36,5 @@ written-written a b bytes n m la lb em =
 -- one item
 pub set-is_written : (bytes : List ℕ) (at item : ℕ) → at < length bytes → set bytes at item ≡ written at (item ∷ []) bytes
 set-is_written bytes at item within =
-    set_split bytes at item within ∙ ap (λ (n : ℕ). take at bytes ++ (item ∷ drop n bytes)) (omega arith)
+    let behind : suc at ≡ at + 1 = omega arith in
+    set_split bytes at item within ∙ ap (λ (n : ℕ). take at bytes ++ (item ∷ drop n bytes)) behind
