@@ -4,6 +4,7 @@ use Rattle.byteorder.specs.Endian.{big_bytes}
 use Rattle.onvm_packet.specs.Bytes.{number}
 use Rattle.onvm_packet.specs.Checksum.{swapped}
 use Rattle.onvm_packet.specs.Heads.{net_of}
+use Rattle.onvm_packet.specs.declared.heads.Heads.{Heads}
 use Rattle.onvm_packet.specs.declared.heads.Net.{Net}
 use Rattle.onvm_packet.specs.declared.heads.Net.TheVariants as net
 
@@ -39,3 +40,13 @@ with_tag tag bytes = take 12 bytes ++ (0x81 ∷ 0x00 ∷ big_bytes 2 tag) ++ dro
 
 abbrev pub without_tag : List ℕ → List ℕ
 without_tag bytes = take 12 bytes ++ drop 16 bytes
+
+-- the heads with this TTL or hop limit
+abbrev pub net_with_ttl : ℕ → Net → Net
+net_with_ttl ttl net.None = net.None
+net_with_ttl ttl (net.V4 at source target protocol old) = net.V4 at source target protocol ttl
+net_with_ttl ttl (net.V6 at source target next hops) = net.V6 at source target next ttl
+
+abbrev pub heads_with_ttl : ℕ → Heads → Heads
+heads_with_ttl ttl heads =
+    record { vlan = heads.vlan; ethertype = heads.ethertype; net = net_with_ttl ttl heads.net; ports = heads.ports }
