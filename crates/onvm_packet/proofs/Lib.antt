@@ -3,6 +3,8 @@ pub mod Header
 pub mod HeadsKept
 pub mod Kept
 pub mod Ones
+pub mod Tags
+pub mod TtlChecksum
 pub mod TtlHeads
 pub mod Within
 pub mod Writing

@@ -1,7 +1,6 @@
 -- Sums in one's complement are sums modulo 65535, where only the empty sum is 0.
 use Rattle.std.proofs.Common.{◌≡◌, ◌∙◌, sym, ap, ℕ, zero, suc, ◌+◌, ◌-◌, ◌*◌, ◌/◌, ◌%◌, ◌<◌, ◌≤◌, List, [], ◌∷◌, arith, refl}
-use Rattle.std.specs.List.{AllByRecursion}
-use Rattle.onvm_packet.specs.Checksum.{ones_plus, ones_sum, complement, swapped}
+use Rattle.onvm_packet.specs.Checksum.{AreWords, ones_plus, ones_sum, complement, swapped}
 
 -- what is left of a sum once its carries came in at the low end
 abbrev pub folded : ℕ → ℕ
@@ -11,9 +10,6 @@ folded (suc n) = n % 65535 + 1
 abbrev pub total : List ℕ → ℕ
 total [] = 0
 total (word ∷ rest) = word + total rest
-
-abbrev pub AreWords : List ℕ → Type 0
-AreWords words = AllByRecursion (λ word. word < 65536) words
 
 -- a word is folded
 pub folded-word : (word : ℕ) → word < 65536 → folded word ≡ word
@@ -72,3 +68,25 @@ swapped-keeps rest sum old new fs fo fn multiple =
 
 pub swapped-fits : (sum old new : ℕ) → swapped sum old new < 65536
 swapped-fits sum old new = omega arith
+
+-- only nothing folds to nothing
+pub above-folded : (n : ℕ) → 0 < folded n → 0 < n
+above-folded zero above = absurd (omega arith)
+above-folded (suc n) above = omega arith
+
+pub swapped-right : (others : List ℕ) (sum old new : ℕ) → AreWords (sum ∷ old ∷ others) → new < 65536
+    → ones_sum (sum ∷ old ∷ others) ≡ 65535 → 0 < ones_sum (swapped sum old new ∷ new ∷ others)
+    → ones_sum (swapped sum old new ∷ new ∷ others) ≡ 65535
+swapped-right others sum old new fit fn right above =
+    let made : ℕ = swapped sum old new in
+    let rest : ℕ = total others in
+    let fold : ones_sum (made ∷ new ∷ others) ≡ folded (made + (new + rest)) =
+    ones_sum-folded (made ∷ new ∷ others) (swapped-fits sum old new, (fn, fit.1.1)) in
+    let ones = all_ones (sum + (old + rest)) (sym (ones_sum-folded (sum ∷ old ∷ others) fit) ∙ right) in
+    let before : rest + (old + sum) ≡ sum + (old + rest) = omega arith in
+    let after : made + (new + rest) ≡ rest + (new + made) = omega arith in
+    let kept : (rest + (new + made)) % 65535 ≡ 0 =
+    swapped-keeps rest sum old new fit.0 fit.1.0 fn (ap (λ (n : ℕ). n % 65535) before ∙ ones.1) in
+    fold
+    ∙ folded-multiple (made + (new + rest)) (above-folded (made + (new + rest)) (omega (arith, fold, above)))
+    (ap (λ (n : ℕ). n % 65535) after ∙ kept)

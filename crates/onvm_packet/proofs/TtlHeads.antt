@@ -87,7 +87,7 @@ module _ (bytes : List ℕ) (ttl : ℕ) (found : found_ipv4 bytes ≡ true) wher
       ap (λ (n : ℕ). byte n (new_ipv4 ttl bytes)) place
       ∙ byte-over (net_place bytes + 8) (over_ipv4 ttl bytes) bytes fits-ipv4 1 (omega arith)
 
-  net-ipv4 : net_of (new_ipv4 ttl bytes) ≡ ipv4_at (net_place bytes) (new_ipv4 ttl bytes)
+  pub net-ipv4 : net_of (new_ipv4 ttl bytes) ≡ ipv4_at (net_place bytes) (new_ipv4 ttl bytes)
   net-ipv4 =
       let still : ((ethertype_of bytes == 0x0800) && is_ipv4 (net_place bytes) (new_ipv4 ttl bytes)) ≡ true =
       ap (λ (b : Bool). (ethertype_of bytes == 0x0800) && b) (is_ipv4-kept bytes (new_ipv4 ttl bytes) (net_place bytes) size-ipv4 first-ipv4) ∙ found in
@@ -135,7 +135,7 @@ module _ (bytes : List ℕ) (ttl : ℕ) (other : found_ipv4 bytes ≡ false) (fo
   whole-ipv6 : net_place bytes + 40 ≤ length bytes
   whole-ipv6 = ipv6_within (net_place bytes) bytes (and_parts (ethertype_of bytes == 0x86dd) (is_ipv6 (net_place bytes) bytes) found).1
 
-  net_of-ipv6 : net_of bytes ≡ ipv6_at (net_place bytes) bytes
+  pub net_of-ipv6 : net_of bytes ≡ ipv6_at (net_place bytes) bytes
   net_of-ipv6 = cond-false (found_ipv4 bytes) _ _ other ∙ cond-true (found_ipv6 bytes) _ _ found
 
   pub with_ttl-ipv6 : with_ttl ttl bytes ≡ new_ipv6 ttl bytes
@@ -205,7 +205,7 @@ module _ (bytes : List ℕ) (ttl : ℕ) (other : found_ipv4 bytes ≡ false) (fo
 
 -- with no network head
 module _ (bytes : List ℕ) (ttl : ℕ) (four : found_ipv4 bytes ≡ false) (six : found_ipv6 bytes ≡ false) where
-  net_of-none : net_of bytes ≡ net.None
+  pub net_of-none : net_of bytes ≡ net.None
   net_of-none = cond-false (found_ipv4 bytes) _ _ four ∙ cond-false (found_ipv6 bytes) _ _ six
 
   pub with_ttl-none : with_ttl ttl bytes ≡ bytes

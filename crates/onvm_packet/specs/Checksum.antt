@@ -1,11 +1,15 @@
 -- The Internet checksum (RFC 1071), and its update where a word changes (RFC 1624).
-use Rattle.std.specs.Prelude.{◌≡◌, ℕ, ◌+◌, ◌-◌, ◌*◌, ◌/◌, ◌%◌, List, [], ◌∷◌}
+use Rattle.std.specs.Prelude.{◌≡◌, ℕ, ◌+◌, ◌-◌, ◌*◌, ◌/◌, ◌%◌, ◌<◌, List, [], ◌∷◌}
+use Rattle.std.specs.List.{AllByRecursion}
 
 -- the words of 16 bits, the first byte high. A last byte that is alone has a 0 behind it
 abbrev pub words : List ℕ → List ℕ
 words [] = []
 words (high ∷ []) = (high * 256) ∷ []
 words (high ∷ low ∷ bytes) = (high * 256 + low) ∷ words bytes
+
+abbrev pub AreWords : List ℕ → Type 0
+AreWords words = AllByRecursion (λ word. word < 65536) words
 
 -- in one's complement a carry out of the highest bit comes in at the lowest
 abbrev pub ones_plus : ℕ → ℕ → ℕ

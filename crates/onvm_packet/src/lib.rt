@@ -5,6 +5,7 @@ mod checksum;
 mod edits;
 mod flow;
 mod heads;
+pub mod laws;
 mod words;
 
 pub use checksum::swap_word;
