@@ -3,4 +3,5 @@ pub mod Checksum
 pub mod Edits
 pub mod Flow
 pub mod Heads
+pub mod Holding
 pub mod Within

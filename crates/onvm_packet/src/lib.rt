@@ -6,9 +6,11 @@ mod edits;
 mod flow;
 mod heads;
 pub mod laws;
+mod holding;
 mod words;
 
 pub use checksum::swap_word;
 pub use edits::{pop_tag, push_tag, set_macs, set_ttl};
 pub use flow::{FiveTuple, five_tuple, flow_hash};
+pub use holding::holds;
 pub use heads::{Heads, Net, parse};
