@@ -35,8 +35,8 @@ number-header : (count k at n : ℕ) (bytes : List ℕ) → k + count ≤ n → 
 number-header count k at n bytes inside =
     big_from-same count 0 (drop k (take n (drop at bytes))) (drop (at + k) bytes)
     (λ i l.
-      get_or-drop k (take n (drop at bytes)) i 0 ∙ get_or-take n (drop at bytes) (k + i) 0 (omega arith)
-      ∙ sym (get_or-drop k (drop at bytes) i 0) ∙ ap (λ (t : List ℕ). get_or t i 0) (drop-drop k at bytes))
+    get_or-drop k (take n (drop at bytes)) i 0 ∙ get_or-take n (drop at bytes) (k + i) 0 (omega arith)
+    ∙ sym (get_or-drop k (drop at bytes) i 0) ∙ ap (λ (t : List ℕ). get_or t i 0) (drop-drop k at bytes))
 
 module _ (bytes : List ℕ) (ttl : ℕ) (are : AreBytes bytes) (fits : ttl < 256) (found : found_ipv4 bytes ≡ true) where
   header-new : header_at (net_place bytes) (new_ipv4 ttl bytes) ≡ written 8 (over_ipv4 ttl bytes) (header_at (net_place bytes) bytes)
@@ -90,7 +90,7 @@ right-with_ttl bytes ttl are fits right =
     elim (cases_Bool (found_ipv4 bytes)) [
       | inl four ↦ stays-ipv4 bytes ttl are fits four right
       | inr none ↦ elim (cases_Bool (found_ipv6 bytes)) [
-          | inl found ↦ subst all (sym (with_ttl-ipv6 bytes ttl none found)) (subst six (sym (net-ipv6 bytes ttl none found)) tt)
-          | inr neither ↦ subst all (sym (with_ttl-none bytes ttl none neither)) right
-        ]
+        | inl found ↦ subst all (sym (with_ttl-ipv6 bytes ttl none found)) (subst six (sym (net-ipv6 bytes ttl none found)) tt)
+        | inr neither ↦ subst all (sym (with_ttl-none bytes ttl none neither)) right
+      ]
     ]

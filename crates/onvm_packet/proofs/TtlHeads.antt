@@ -220,7 +220,7 @@ pub heads-with_ttl : (bytes : List ℕ) (ttl : ℕ) → heads_of (with_ttl ttl b
 heads-with_ttl bytes ttl = elim (cases_Bool (found_ipv4 bytes)) [
   | inl four ↦ heads-ipv4 bytes ttl four
   | inr none ↦ elim (cases_Bool (found_ipv6 bytes)) [
-      | inl six ↦ heads-ipv6 bytes ttl none six
-      | inr neither ↦ heads-none bytes ttl none neither
-    ]
+    | inl six ↦ heads-ipv6 bytes ttl none six
+    | inr neither ↦ heads-none bytes ttl none neither
+  ]
 ]

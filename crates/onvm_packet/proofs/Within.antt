@@ -30,8 +30,8 @@ net_at_within ethertype at bytes =
     cond_both ((ethertype == 0x0800) && is_ipv4 at bytes) _ _ P
     (λ is. ipv4_within at bytes (and_parts (ethertype == 0x0800) (is_ipv4 at bytes) is).1)
     (λ _. cond_both ((ethertype == 0x86dd) && is_ipv6 at bytes) _ _ P
-      (λ is. ipv6_within at bytes (and_parts (ethertype == 0x86dd) (is_ipv6 at bytes) is).1)
-      (λ _. tt))
+    (λ is. ipv6_within at bytes (and_parts (ethertype == 0x86dd) (is_ipv6 at bytes) is).1)
+    (λ _. tt))
 
 pub net_within : (bytes : List ℕ) → IsWithin (net_of bytes) bytes
 net_within bytes = net_at_within (number 2 (type_at bytes) bytes) (type_at bytes + 2) bytes

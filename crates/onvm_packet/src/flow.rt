@@ -6,6 +6,7 @@ ghost use Rattle.onvm_packet.specs.Flow.{five_tuple_of, flow_hash_of, fnv_1a, fn
 use crate::heads::{Heads, Net};
 
 const FNV_BASIS: u32 = 2_166_136_261;
+
 const FNV_PRIME: u32 = 16_777_619;
 
 /// What the packets of one flow have in common.
@@ -71,7 +72,13 @@ pub fn flow_hash(heads: &Heads) -> u32
             target,
             protocol,
             ..
-        } => hash_parts(4, &source.to_be_bytes(), &target.to_be_bytes(), protocol, ports),
+        } => hash_parts(
+            4,
+            &source.to_be_bytes(),
+            &target.to_be_bytes(),
+            protocol,
+            ports,
+        ),
         Net::V6 {
             source,
             target,

@@ -6,11 +6,17 @@ ghost use Rattle.onvm_packet.specs.Heads.{heads_of, is_tagged, type_at, net_of, 
 use crate::words::{u8_at, u16_at, u32_at, u128_at};
 
 const ETHERNET_LEN: usize = 14;
+
 const TAGGED_LEN: usize = 18;
+
 const TAG_TYPE: u16 = 0x8100;
+
 const IPV4_TYPE: u16 = 0x0800;
+
 const IPV6_TYPE: u16 = 0x86dd;
+
 const TCP: u8 = 6;
+
 const UDP: u8 = 17;
 
 /// What the heads of a frame say.
@@ -80,8 +86,11 @@ fn read_heads(vlan: Option<u16>, at: usize, bytes: &[u8]) -> Heads
     requires place { at ≡ type_at bytes.now }
     requires whole { at + 2 ≤ length bytes.now }
     ensures { result ≡ record {
-        vlan = vlan; ethertype = Some (number 2 (type_at bytes.now) bytes.now);
-        net = net_of bytes.now; ports = ports_of (net_of bytes.now) bytes.now } }
+      vlan = vlan;
+      ethertype = Some (number 2 (type_at bytes.now) bytes.now);
+      net = net_of bytes.now;
+      ports = ports_of (net_of bytes.now) bytes.now;
+    } }
 {
     let ethertype = u16_at(bytes, at);
     let (net, ports) = read_net(ethertype, at + 2, bytes);
