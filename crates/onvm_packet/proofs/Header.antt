@@ -1,10 +1,10 @@
 -- A right checksum stays right where TTL and checksum are written over.
-use Rattle.std.proofs.Common.{◌≡◌, ◌∙◌, sym, ap, ℕ, zero, suc, ◌+◌, ◌*◌, ◌/◌, ◌%◌, ◌<◌, ◌≤◌, List, [], ◌∷◌, ◌++◌, length, take, drop, arith, refl}
+use Rattle.std.proofs.Common.{◌≡◌, ◌∙◌, sym, ap, ℕ, suc, ◌+◌, ◌*◌, ◌/◌, ◌%◌, ◌<◌, ◌≤◌, List, [], ◌∷◌, length, arith}
 use Rattle.byteorder.specs.Endian.{big_bytes}
 use Rattle.onvm_packet.specs.Bytes.{AreBytes, byte, number}
-use Rattle.onvm_packet.specs.Checksum.{AreWords, IsRight, ones_sum, swapped, words}
+use Rattle.onvm_packet.specs.Checksum.{AreWords, IsRight, swapped, words}
 use Rattle.onvm_packet.specs.Edits.{written}
-use Rattle.onvm_packet.proofs.Ones.{all_ones, folded, folded-multiple, ones_sum-folded, swapped-fits, swapped-keeps, total}
+use Rattle.onvm_packet.proofs.Ones.{all_ones, folded-multiple, ones_sum-folded, swapped-fits, swapped-keeps, total}
 
 pub words-fit : (bytes : List ℕ) → AreBytes bytes → AreWords (words bytes)
 words-fit [] are = tt

@@ -1,12 +1,8 @@
 -- What another TTL leaves of the heads.
-use Rattle.std.proofs.Common.{◌≡◌, ◌∙◌, sym, ap, ℕ, ◌+◌, ◌*◌, ◌/◌, ◌%◌, ◌<◌, ◌≤◌, Bool, true, false, ◌==◌, ◌&&◌, ◌||◌, not, cond, nat_le, List, [], ◌∷◌, ◌++◌, length, take, drop, Option, Some, None, arith, refl}
-use Rattle.std.proofs.lemmas.Bool.{and_parts, cases_Bool, cond-true, cond-false, cond_both}
+use Rattle.std.proofs.Common.{◌≡◌, ◌∙◌, ap, ℕ, ◌+◌, ◌*◌, ◌/◌, ◌%◌, ◌≤◌, Bool, ◌==◌, ◌&&◌, ◌||◌, cond, nat_le, List, length, Some, None, arith, refl}
+use Rattle.std.proofs.lemmas.Bool.{cond_both}
 use Rattle.onvm_packet.specs.Bytes.{byte, number}
-use Rattle.onvm_packet.specs.Edits.{written}
-use Rattle.onvm_packet.specs.Heads.{has_ports, heads_of, ipv4_at, ipv6_at, is_fragment, is_ipv4, is_ipv6, is_tagged, net_at, net_of, ports_at, ports_of, type_at, type_of, vlan_of, words_at}
-use Rattle.onvm_packet.specs.declared.heads.Heads.{Heads}
-use Rattle.onvm_packet.specs.declared.heads.Net.{Net}
-use Rattle.onvm_packet.specs.declared.heads.Net.TheVariants as net
+use Rattle.onvm_packet.specs.Heads.{has_ports, is_ipv4, is_ipv6, is_tagged, net_at, net_of, ports_at, type_at, type_of, vlan_of}
 
 pub type_at_most : (bytes : List ℕ) → type_at bytes ≤ 16
 type_at_most bytes = let P : ℕ → Type 0 = λ n. n ≤ 16 in cond_both (is_tagged bytes) 16 12 P (λ _. omega arith) (λ _. omega arith)

@@ -1,6 +1,6 @@
 -- Sums in one's complement are sums modulo 65535, where only the empty sum is 0.
-use Rattle.std.proofs.Common.{◌≡◌, ◌∙◌, sym, ap, ℕ, zero, suc, ◌+◌, ◌-◌, ◌*◌, ◌/◌, ◌%◌, ◌<◌, ◌≤◌, List, [], ◌∷◌, arith, refl}
-use Rattle.onvm_packet.specs.Checksum.{AreWords, ones_plus, ones_sum, complement, swapped}
+use Rattle.std.proofs.Common.{◌≡◌, ◌∙◌, sym, ap, ℕ, zero, suc, ◌+◌, ◌-◌, ◌%◌, ◌<◌, List, [], ◌∷◌, arith, refl}
+use Rattle.onvm_packet.specs.Checksum.{AreWords, ones_plus, ones_sum, swapped}
 
 -- what is left of a sum once its carries came in at the low end
 abbrev pub folded : ℕ → ℕ

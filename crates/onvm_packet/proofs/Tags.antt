@@ -1,9 +1,9 @@
 -- A tag that is pushed is there, and taking it out again gives the frame back.
-use Rattle.std.proofs.Common.{◌≡◌, ◌∙◌, sym, ap, ℕ, ◌+◌, ◌-◌, ◌*◌, ◌/◌, ◌%◌, ◌<◌, ◌≤◌, Bool, true, ◌==◌, ◌&&◌, nat_le, List, [], ◌∷◌, ◌++◌, length, take, drop, Option, Some, append_assoc, arith, refl}
+use Rattle.std.proofs.Common.{◌≡◌, ◌∙◌, sym, ap, ℕ, ◌+◌, ◌-◌, ◌*◌, ◌/◌, ◌%◌, ◌<◌, ◌≤◌, true, ◌==◌, nat_le, List, ◌∷◌, ◌++◌, length, take, drop, Some, append_assoc, arith}
 use Rattle.std.proofs.lemmas.Bool.{and_from, cond-true, le-leb}
 use Rattle.std.proofs.lemmas.List.{take_at, drop_at, drop-drop, length-append, length-drop, length-take-le, take-append-drop}
 use Rattle.byteorder.specs.Endian.{big_bytes, big_from}
-use Rattle.onvm_packet.specs.Bytes.{byte, number}
+use Rattle.onvm_packet.specs.Bytes.{number}
 use Rattle.onvm_packet.specs.Edits.{with_tag, without_tag}
 use Rattle.onvm_packet.specs.Heads.{is_tagged, type_at, type_of, vlan_of}
 

@@ -1,15 +1,14 @@
 -- With another TTL a right checksum stays right.
-use Rattle.std.proofs.Common.{◌≡◌, ◌∙◌, sym, ap, subst, ℕ, ◌+◌, ◌-◌, ◌*◌, ◌%◌, ◌/◌, ◌<◌, ◌≤◌, List, [], ◌∷◌, length, take, drop, get_or, true, false, inl, inr, arith, refl}
+use Rattle.std.proofs.Common.{◌≡◌, ◌∙◌, sym, ap, subst, ℕ, ◌+◌, ◌-◌, ◌*◌, ◌%◌, ◌<◌, ◌≤◌, List, ◌∷◌, length, take, drop, get_or, true, inl, inr, arith}
 use Rattle.std.proofs.lemmas.Bool.{cases_Bool, cases_lt}
 use Rattle.std.proofs.lemmas.List.{get_or-drop, get_or-take, get_or_past, length-drop, length-take, length-take-le, drop-drop}
 use Rattle.byteorder.specs.Endian.{big_bytes}
 use Rattle.onvm_packet.specs.Bytes.{AreBytes, byte, number}
 use Rattle.onvm_packet.specs.Checksum.{IsRight, swapped}
 use Rattle.onvm_packet.specs.Edits.{written, with_ttl}
-use Rattle.onvm_packet.specs.Heads.{ipv4_at, net_of, words_at}
-use Rattle.onvm_packet.specs.Within.{IsIpv4Within, IsRightBehind, HasRightChecksum, header_at}
+use Rattle.onvm_packet.specs.Heads.{words_at}
+use Rattle.onvm_packet.specs.Within.{IsRightBehind, HasRightChecksum, header_at}
 use Rattle.onvm_packet.specs.declared.heads.Net.{Net}
-use Rattle.onvm_packet.specs.declared.heads.Net.TheVariants as net
 use Rattle.onvm_packet.proofs.Header.{right_stays, ttl_bytes}
 use Rattle.onvm_packet.proofs.Kept.{big_from-same, drop-written, take-written}
 use Rattle.onvm_packet.proofs.TtlHeads.{first-ipv4, found-within, found_ipv4, found_ipv6, net-ipv4, net-ipv6, net_of-ipv4, net_place, new_ipv4, new_ipv6, over_ipv4, with_ttl-ipv4, with_ttl-ipv6, with_ttl-none}

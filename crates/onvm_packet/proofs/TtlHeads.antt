@@ -1,11 +1,11 @@
 -- Another TTL changes the TTL that is read, and no other head.
-use Rattle.std.proofs.Common.{◌≡◌, ◌∙◌, sym, ap, ℕ, ◌+◌, ◌*◌, ◌/◌, ◌%◌, ◌<◌, ◌≤◌, Bool, true, false, ◌==◌, ◌&&◌, cond, not, List, [], ◌∷◌, ◌++◌, length, Option, Some, None, inl, inr, arith, refl}
-use Rattle.std.proofs.lemmas.Bool.{and_parts, cases_Bool, cond-true, cond-false, true≢false}
+use Rattle.std.proofs.Common.{◌≡◌, ◌∙◌, sym, ap, ℕ, ◌+◌, ◌*◌, ◌%◌, ◌≤◌, Bool, true, false, ◌==◌, ◌&&◌, cond, not, List, [], ◌∷◌, length, Option, None, inl, inr, arith, refl}
+use Rattle.std.proofs.lemmas.Bool.{and_parts, cases_Bool, cond-true, cond-false}
 use Rattle.byteorder.specs.Endian.{big_bytes}
 use Rattle.onvm_packet.specs.Bytes.{byte, number}
 use Rattle.onvm_packet.specs.Checksum.{swapped}
-use Rattle.onvm_packet.specs.Edits.{written, ipv4_ttl_written, ttl_written, with_ttl, net_with_ttl, heads_with_ttl}
-use Rattle.onvm_packet.specs.Heads.{heads_of, ipv4_at, ipv6_at, is_fragment, is_ipv4, is_ipv6, net_at, net_of, ports_at, ports_of, type_at, type_of, vlan_of, words_at}
+use Rattle.onvm_packet.specs.Edits.{written, ttl_written, with_ttl, net_with_ttl, heads_with_ttl}
+use Rattle.onvm_packet.specs.Heads.{heads_of, ipv4_at, ipv6_at, is_fragment, is_ipv4, is_ipv6, net_of, ports_at, ports_of, type_at, words_at}
 use Rattle.onvm_packet.specs.Within.{IsIpv4Within}
 use Rattle.onvm_packet.specs.declared.heads.Heads.{Heads}
 use Rattle.onvm_packet.specs.declared.heads.Net.{Net}

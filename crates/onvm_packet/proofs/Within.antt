@@ -1,7 +1,7 @@
 -- A network head that is read lies in the frame.
-use Rattle.std.proofs.Common.{◌≡◌, ◌∙◌, sym, ap, subst, ℕ, ◌+◌, ◌*◌, ◌/◌, ◌≤◌, Bool, true, List, length, arith, nat_le, ◌==◌, ◌&&◌}
+use Rattle.std.proofs.Common.{◌≡◌, ◌∙◌, sym, ap, subst, ℕ, ◌+◌, ◌*◌, ◌/◌, ◌≤◌, Bool, true, List, length, nat_le, ◌==◌, ◌&&◌}
 use Rattle.std.proofs.lemmas.Bool.{and_parts, eqb-true, leb-true, cond_both}
-use Rattle.onvm_packet.specs.Heads.{heads_of, is_ipv4, is_ipv6, ipv4_at, ipv6_at, net_at, net_of, type_at, words_at}
+use Rattle.onvm_packet.specs.Heads.{heads_of, is_ipv4, is_ipv6, net_at, net_of, type_at, words_at}
 use Rattle.onvm_packet.specs.Bytes.{byte, number}
 use Rattle.onvm_packet.specs.Within.{IsIpv4Within, IsWithin}
 use Rattle.onvm_packet.specs.declared.heads.Heads.{Heads}

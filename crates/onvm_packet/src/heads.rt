@@ -5,8 +5,19 @@ ghost use Rattle.onvm_packet.specs.Heads.{heads_of, is_tagged, type_at, net_of, 
 
 use crate::words::{u8_at, u16_at, u32_at, u128_at};
 
+// Where the type stands.
+const TYPE_AT: usize = 12;
+
+// Where the network head begins.
 const ETHERNET_LEN: usize = 14;
 
+// Where the tag stands, if there is one.
+const TAG_AT: usize = 14;
+
+// Where the type stands behind a tag.
+const TAGGED_TYPE_AT: usize = 16;
+
+// Where the network head begins behind a tag.
 const TAGGED_LEN: usize = 18;
 
 const TAG_TYPE: u16 = 0x8100;
@@ -66,10 +77,10 @@ pub fn parse(bytes: &[u8]) -> Heads
         };
     }
     if is_tagged(bytes) {
-        let vlan = u16_at(bytes, 14) % 4096;
-        read_heads(Some(vlan), 16, bytes)
+        let vlan = u16_at(bytes, TAG_AT) % 4096;
+        read_heads(Some(vlan), TAGGED_TYPE_AT, bytes)
     } else {
-        read_heads(None, 12, bytes)
+        read_heads(None, TYPE_AT, bytes)
     }
 }
 
@@ -78,7 +89,7 @@ fn is_tagged(bytes: &[u8]) -> bool
     requires { 14 ≤ length bytes.now }
     ensures { result ≡ is_tagged bytes.now }
 {
-    u16_at(bytes, 12) == TAG_TYPE && bytes.len() >= TAGGED_LEN
+    u16_at(bytes, TYPE_AT) == TAG_TYPE && bytes.len() >= TAGGED_LEN
 }
 
 // The heads of a frame whose type stands at an offset.

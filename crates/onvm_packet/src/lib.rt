@@ -1,4 +1,9 @@
-//! The heads of a frame, and the edits of its bytes.
+//! What the bytes of a frame say, and edits of them.
+//!
+//! The *heads* of a frame are its type, the VLAN of its outer tag, its *network head* (of IPv4 or
+//! IPv6) and the ports behind that. Its *flow* is what tells the packets of one exchange from
+//! others: addresses, protocol and ports. An *edit* writes new bytes, with the checksum that covers
+//! them, and leaves all others.
 #![tactic(auto)]
 
 mod checksum;

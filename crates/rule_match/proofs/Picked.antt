@@ -1,5 +1,5 @@
 -- What the first chain says of the rules, both ways.
-use Rattle.std.proofs.Common.{◌≡◌, ◌∙◌, sym, ap, Bool, true, false, cond, Option, Some, None, List, [], ◌∷◌, ◌++◌, inl, inr, refl}
+use Rattle.std.proofs.Common.{◌≡◌, ◌∙◌, sym, ap, true, Some, None, List, [], ◌∷◌, ◌++◌, inl, inr, refl}
 use Rattle.std.proofs.lemmas.Bool.{cases_Bool, cond-true, cond-false}
 use Rattle.std.proofs.lemmas.Option.{none-some, same_Some}
 use Rattle.onvm_base.specs.declared.ids.ChainId.{ChainId}

@@ -4,9 +4,9 @@
 //! for a frame picks its chain.
 #![tactic(auto)]
 
-mod matching;
 pub mod laws;
-
-
+mod matching;
+#[cfg(test)]
+mod tests;
 
 pub use matching::first;

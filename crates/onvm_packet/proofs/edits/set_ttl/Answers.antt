@@ -1,4 +1,4 @@
-use Rattle.std.proofs.Common.{◌∙◌, ap, sym, arith, refl, ◌+◌}
+use Rattle.std.proofs.Common.{◌∙◌, ap, sym, arith, ◌+◌}
 use Rattle.onvm_packet.proofs.Writing.{set-is_written}
 use Rattle.onvm_packet.specs.Heads.{heads_of}
 use Rattle.onvm_packet.specs.Edits.{ttl_written}
