@@ -10,20 +10,20 @@ type_at_most bytes = let P : ℕ → Type 0 = λ n. n ≤ 16 in cond_both (is_ta
 pub type_at_least : (bytes : List ℕ) → 12 ≤ type_at bytes
 type_at_least bytes = let P : ℕ → Type 0 = λ n. 12 ≤ n in cond_both (is_tagged bytes) 16 12 P (λ _. omega arith) (λ _. omega arith)
 
--- bytes that are the same up to the network head, and as many
+-- bytes that are the same from the type up to the network head, and as many
 module _ (bytes new : List ℕ) (size : length new ≡ length bytes)
-    (front : (count k : ℕ) → k + count ≤ 18 → number count k new ≡ number count k bytes) where
+    (front : (count k : ℕ) → 12 ≤ k → k + count ≤ 18 → number count k new ≡ number count k bytes) where
   pub tagged-kept : is_tagged new ≡ is_tagged bytes
-  tagged-kept = rw (front 2 12 (omega arith), size) refl
+  tagged-kept = rw (front 2 12 (omega arith) (omega arith), size) refl
 
   pub type_at-kept : type_at new ≡ type_at bytes
   type_at-kept = ap (λ (b : Bool). cond b 16 12) tagged-kept
 
   pub vlan-kept : vlan_of new ≡ vlan_of bytes
-  vlan-kept = rw (tagged-kept, front 2 14 (omega arith)) refl
+  vlan-kept = rw (tagged-kept, front 2 14 (omega arith) (omega arith)) refl
 
   pub number-kept : number 2 (type_at new) new ≡ number 2 (type_at bytes) bytes
-  number-kept = ap (λ (n : ℕ). number 2 n new) type_at-kept ∙ front 2 (type_at bytes) (omega (arith, type_at_most bytes))
+  number-kept = ap (λ (n : ℕ). number 2 n new) type_at-kept ∙ front 2 (type_at bytes) (type_at_least bytes) (omega (arith, type_at_most bytes))
 
   pub type-kept : type_of new ≡ type_of bytes
   type-kept =

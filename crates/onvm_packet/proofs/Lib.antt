@@ -2,6 +2,7 @@ pub mod Hashing
 pub mod Header
 pub mod HeadsKept
 pub mod Kept
+pub mod Macs
 pub mod Ones
 pub mod Tags
 pub mod TtlChecksum

@@ -69,8 +69,8 @@ module _ (bytes : List ℕ) (ttl : ℕ) (found : found_ipv4 bytes ≡ true) wher
   pub behind-ipv4 : (count k : ℕ) → net_place bytes + 12 ≤ k → number count k (new_ipv4 ttl bytes) ≡ number count k bytes
   behind-ipv4 count k behind = number-behind (net_place bytes + 8) (over_ipv4 ttl bytes) bytes fits-ipv4 count k (omega arith)
 
-  front-ipv4 : (count k : ℕ) → k + count ≤ 18 → number count k (new_ipv4 ttl bytes) ≡ number count k bytes
-  front-ipv4 count k before = before-ipv4 count k (omega (arith, type_at_least bytes))
+  front-ipv4 : (count k : ℕ) → 12 ≤ k → k + count ≤ 18 → number count k (new_ipv4 ttl bytes) ≡ number count k bytes
+  front-ipv4 count k far before = before-ipv4 count k (omega (arith, type_at_least bytes))
 
   pub first-ipv4 : byte (net_place bytes) (new_ipv4 ttl bytes) ≡ byte (net_place bytes) bytes
   first-ipv4 = byte-before (net_place bytes + 8) (over_ipv4 ttl bytes) bytes fits-ipv4 (net_place bytes) (omega arith)
@@ -153,8 +153,8 @@ module _ (bytes : List ℕ) (ttl : ℕ) (other : found_ipv4 bytes ≡ false) (fo
   behind-ipv6 : (count k : ℕ) → net_place bytes + 8 ≤ k → number count k (new_ipv6 ttl bytes) ≡ number count k bytes
   behind-ipv6 count k behind = number-behind (net_place bytes + 7) (ttl ∷ []) bytes fits-ipv6 count k (omega arith)
 
-  front-ipv6 : (count k : ℕ) → k + count ≤ 18 → number count k (new_ipv6 ttl bytes) ≡ number count k bytes
-  front-ipv6 count k before = before-ipv6 count k (omega (arith, type_at_least bytes))
+  front-ipv6 : (count k : ℕ) → 12 ≤ k → k + count ≤ 18 → number count k (new_ipv6 ttl bytes) ≡ number count k bytes
+  front-ipv6 count k far before = before-ipv6 count k (omega (arith, type_at_least bytes))
 
   first-ipv6 : byte (net_place bytes) (new_ipv6 ttl bytes) ≡ byte (net_place bytes) bytes
   first-ipv6 = byte-before (net_place bytes + 7) (ttl ∷ []) bytes fits-ipv6 (net_place bytes) (omega arith)

@@ -17,7 +17,8 @@ written at over bytes = take at bytes ++ (over ++ drop (at + length over) bytes)
 abbrev pub ipv4_ttl_written : ℕ → ℕ → ℕ → List ℕ → List ℕ
 ipv4_ttl_written ttl protocol at bytes =
     written (at + 8)
-    (ttl ∷ protocol ∷ big_bytes 2 (swapped (number 2 (at + 10) bytes) (number 2 (at + 8) bytes) (ttl * 256 + protocol)))
+    (ttl ∷ protocol
+    ∷ big_bytes 2 (swapped (number 2 (at + 10) bytes) (number 2 (at + 8) bytes) (ttl * 256 + protocol)))
     bytes
 
 -- RFC 8200, 3: the hop limit is byte 7 of an IPv6 header, which has no checksum

@@ -9,9 +9,23 @@ use Rattle.onvm_packet.specs.declared.flow.FiveTuple.{FiveTuple}
 abbrev pub flow_of : Net → ℕ × ℕ → Option FiveTuple
 flow_of net.None ports = None
 flow_of (net.V4 at source target protocol ttl) ports =
-    Some (record { version = 4; source = source; target = target; protocol = protocol; source_port = ports.0; target_port = ports.1 })
+    Some (record {
+      version = 4;
+      source = source;
+      target = target;
+      protocol = protocol;
+      source_port = ports.0;
+      target_port = ports.1;
+    })
 flow_of (net.V6 at source target next hops) ports =
-    Some (record { version = 6; source = source; target = target; protocol = next; source_port = ports.0; target_port = ports.1 })
+    Some (record {
+      version = 6;
+      source = source;
+      target = target;
+      protocol = next;
+      source_port = ports.0;
+      target_port = ports.1;
+    })
 
 -- ports that aren't there count as 0
 abbrev pub five_tuple_of : Heads → Option FiveTuple
@@ -30,7 +44,7 @@ flow_bytes (Some flow) =
     ++ (big_bytes (address_len flow.version) flow.target
     ++ (flow.protocol ∷ (big_bytes 2 flow.source_port ++ big_bytes 2 flow.target_port))))
 
--- FNV-1a of 32 bits (Fowler, Noll and Vo; RFC 9923): a byte is taken in by exclusive or, and then the prime is multiplied
+-- FNV-1a of 32 bits, after Fowler, Noll and Vo: for each byte exclusive or with it, and then times the prime
 abbrev pub fnv_step : ℕ → ℕ → ℕ
 fnv_step hash byte = bit_xor hash byte * 16777619 % 2 ^ 32
 

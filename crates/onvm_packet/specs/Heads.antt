@@ -21,25 +21,27 @@ type_at bytes = if is_tagged bytes then 16 else 12
 abbrev pub type_of : List ℕ → Option ℕ
 type_of bytes = if nat_le 14 (length bytes) then Some (number 2 (type_at bytes) bytes) else None
 
--- RFC 791, 3.1: byte 0 has the version and the header's length in words of four bytes, which is at
--- least five. The whole header is there
+-- RFC 791, 3.1: the low four bits of byte 0 are the header's length in words of four bytes
 abbrev pub words_at : ℕ → List ℕ → ℕ
 words_at at bytes = byte at bytes % 16
 
+-- the high four bits of byte 0 are the version, the header has five words at least, and all of it is there
 abbrev pub is_ipv4 : ℕ → List ℕ → Bool
 is_ipv4 at bytes =
     nat_le (at + 20) (length bytes) && (byte at bytes / 16 == 4) && nat_le 5 (words_at at bytes)
     && nat_le (at + 4 * words_at at bytes) (length bytes)
 
 abbrev pub ipv4_at : ℕ → List ℕ → Net
-ipv4_at at bytes = net.V4 at (number 4 (at + 12) bytes) (number 4 (at + 16) bytes) (byte (at + 9) bytes) (byte (at + 8) bytes)
+ipv4_at at bytes =
+    net.V4 at (number 4 (at + 12) bytes) (number 4 (at + 16) bytes) (byte (at + 9) bytes) (byte (at + 8) bytes)
 
 -- RFC 8200, 3: a header of 40 bytes, whose first four bits are the version
 abbrev pub is_ipv6 : ℕ → List ℕ → Bool
 is_ipv6 at bytes = nat_le (at + 40) (length bytes) && (byte at bytes / 16 == 6)
 
 abbrev pub ipv6_at : ℕ → List ℕ → Net
-ipv6_at at bytes = net.V6 at (number 16 (at + 8) bytes) (number 16 (at + 24) bytes) (byte (at + 6) bytes) (byte (at + 7) bytes)
+ipv6_at at bytes =
+    net.V6 at (number 16 (at + 8) bytes) (number 16 (at + 24) bytes) (byte (at + 6) bytes) (byte (at + 7) bytes)
 
 -- the network head that begins at an offset, behind this type
 abbrev pub net_at : ℕ → ℕ → List ℕ → Net
@@ -72,4 +74,9 @@ ports_of (net.V6 at source target next hops) bytes = ports_at next (at + 40) byt
 
 abbrev pub heads_of : List ℕ → Heads
 heads_of bytes =
-    record { vlan = vlan_of bytes; ethertype = type_of bytes; net = net_of bytes; ports = ports_of (net_of bytes) bytes }
+    record {
+      vlan = vlan_of bytes;
+      ethertype = type_of bytes;
+      net = net_of bytes;
+      ports = ports_of (net_of bytes) bytes;
+    }

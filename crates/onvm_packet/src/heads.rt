@@ -42,9 +42,10 @@ pub struct Heads {
     pub ports: Option<(u16, u16)>,
 }
 
-/// The network head.
+/// The network head, with its addresses as numbers.
 #[derive(Clone, Copy, Debug, PartialEq, Eq)]
 pub enum Net {
+    /// Neither IPv4 nor IPv6, or not a whole header of it.
     None,
     /// IPv4, whose header begins at byte `at` of the frame.
     V4 {

@@ -2,7 +2,7 @@
 ghost use Rattle.std.specs.Prelude.{◌≡◌, ◌<◌, ◌≤◌, ◌%◌, ◌^◌, ℕ, List, ◌∷◌, Some, true, length};
 ghost use Rattle.onvm_packet.specs.Bytes.{AreBytes, number};
 ghost use Rattle.onvm_packet.specs.Checksum.{AreWords, ones_sum, swapped};
-ghost use Rattle.onvm_packet.specs.Edits.{with_ttl, heads_with_ttl, with_tag, without_tag};
+ghost use Rattle.onvm_packet.specs.Edits.{with_ttl, heads_with_ttl, with_macs, with_tag, without_tag};
 ghost use Rattle.onvm_packet.specs.Heads.{heads_of, is_tagged, net_of, type_of, vlan_of};
 ghost use Rattle.onvm_packet.specs.Within.{HasRightChecksum, IsWithin};
 
@@ -21,6 +21,13 @@ pub fn a_right_checksum_stays_right()
 pub fn another_ttl_changes_no_other_head()
     ensures { (bytes : List ℕ) (ttl : ℕ)
         → heads_of (with_ttl ttl bytes) ≡ heads_with_ttl ttl (heads_of bytes) }
+{}
+
+/// New addresses change no head.
+pub fn new_addresses_change_no_head()
+    ensures { (target source bytes : List ℕ)
+        → length target ≡ 6 → length source ≡ 6 → 12 ≤ length bytes
+        → heads_of (with_macs target source bytes) ≡ heads_of bytes }
 {}
 
 /// Where a word changes and the checksum is updated for it, the sum stays all ones, unless all
