@@ -3,3 +3,4 @@ pub mod Emitted
 pub mod Faulty
 pub mod Judged
 pub mod Reading
+pub mod Spelling

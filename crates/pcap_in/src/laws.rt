@@ -1,5 +1,5 @@
 //! What the definitions of a capture and of a reader's answers imply, for every text and reader.
-ghost use Rattle.std.specs.Prelude.{◌≡◌, ◌↔◌, ℕ, Bool, true, List, [], ◌∷◌, ◌++◌};
+ghost use Rattle.std.specs.Prelude.{◌≡◌, ◌↔◌, ℕ, Bool, true, List, [], ◌∷◌, ◌++◌, None};
 ghost use Rattle.onvm_base.specs.declared.frame.Frame.{Frame};
 ghost use Rattle.pcap_in.specs.Classic.{IsCapture};
 ghost use Rattle.pcap_in.specs.Faulty.{IsCaptureUpTo};
@@ -24,7 +24,7 @@ pub fn one_answer()
 /// Before a frame is pulled, the frames left are those of the capture that was fed.
 pub fn a_captures_frames_are_left()
     ensures { (text : List ℕ) (finished : Bool) (frames : List Frame)
-        → AreLeft (record { place = 0; rest = text; finished = finished }) frames
+        → AreLeft (record { spelling = None; place = 0; rest = text; finished = finished }) frames
         ↔ IsCapture text frames }
 {}
 

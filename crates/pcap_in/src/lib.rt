@@ -12,6 +12,7 @@ mod judge;
 pub mod laws;
 mod pull;
 mod reader;
+mod spelling;
 #[cfg(test)]
 mod tests;
 
