@@ -148,10 +148,12 @@ AreRecordsUpTo-behind s at before text (frame ∷ frames) fault (a, c, before-is
     AreRecordsUpTo-behind s (at + length a) c text frames fault are (subst (λ (n : ℕ). AreRecordsUpTo s n text [] fault) place up_to) in
     (a, c ++ text, ap (λ t. t ++ text) before-is ∙ append_assoc a c text, is, next)
 
--- what is read first of a capture's records are its first frames
-records_first : (s : Spelling) (text used rest : List ℕ) (xs ys : List Frame) → AreRecords s text xs → text ≡ used ++ rest
-    → AreRecords s used ys → (zs : List Frame) × (xs ≡ ys ++ zs)
-records_first s text used rest xs [] are text-is first = (xs, refl)
+-- what is read first of a capture's records are its first frames, and the others are left
+pub records_first : (s : Spelling) (text used rest : List ℕ) (xs ys : List Frame) → AreRecords s text xs → text ≡ used ++ rest
+    → AreRecords s used ys → (zs : List Frame) × (xs ≡ ys ++ zs) × AreRecords s rest zs
+records_first s text used rest xs [] are text-is first =
+    let P : List ℕ → Type 0 = λ t. AreRecords s t xs in
+    (xs, refl, subst P (text-is ∙ ap (λ t. t ++ rest) first) are)
 records_first s text used rest [] (y ∷ ys) are text-is (b, d, used-is, other, first) =
     absurd (not_nothing s text b (d ++ rest) y are (text-is ∙ ap (λ t. t ++ rest) used-is ∙ append_assoc b d rest) other)
 records_first s text used rest (x ∷ xs) (y ∷ ys) (a, c, whole-is, is, are) text-is (b, d, used-is, other, first) =
@@ -160,7 +162,7 @@ records_first s text used rest (x ∷ xs) (y ∷ ys) (a, c, whole-is, is, are) t
     let others = records_first s c d rest xs ys are same.2 first in
     let heads : x ≡ y = same.1 in
     let tails : xs ≡ ys ++ others.0 = others.1 in
-    (others.0, cc)
+    (others.0, cc, others.2)
 
 -- a capture that a capture begins with has its first frames
 pub capture_first : (text used rest : List ℕ) (xs ys : List Frame) → IsCapture text xs → text ≡ used ++ rest → IsCapture used ys
@@ -169,4 +171,5 @@ capture_first text used rest xs ys (s, (a, c, whole-is, is, are)) text-is (t, (b
     let both : a ++ c ≡ b ++ (d ++ rest) = sym whole-is ∙ text-is ∙ ap (λ u. u ++ rest) used-is ∙ append_assoc b d rest in
     let same = one_header s t a b c (d ++ rest) is other both in
     let P : Spelling → Type 0 = λ u. AreRecords u d ys in
-    records_first s c d rest xs ys are same.1 (subst P (sym same.0) first)
+    let split = records_first s c d rest xs ys are same.1 (subst P (sym same.0) first) in
+    (split.0, split.1)

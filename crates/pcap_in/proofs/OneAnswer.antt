@@ -107,14 +107,22 @@ from_torn old new fault s at rest same torn =
     let is = torn_is s at rest old.finished fault torn in
     inl (same, is.3, ap (λ (f : PcapFault). pull.Bad f) is.1 ∙ stop_torn at rest old.finished is.0 is.2)
 
--- a torn header is an answer of the header's bytes
+-- a torn header: no more bytes come, and they end inside it
+pub torn_header_is : (reading : Reading) (fault : PcapFault) → IsTornHeader reading fault
+    → (reading.finished ≡ true) × (fault ≡ Torn reading.place) × (reading.spelling ≡ None) × (length reading.rest < 24)
+torn_header_is reading (Torn place) (finished, place-is, (none, short)) = (finished, ap (λ (n : ℕ). Torn n) place-is, none, short)
+torn_header_is reading Magic wrong = absurd wrong
+torn_header_is reading Version wrong = absurd wrong
+torn_header_is reading Link wrong = absurd wrong
+torn_header_is reading (TooLong place len) wrong = absurd wrong
+torn_header_is reading (Fraction place) wrong = absurd wrong
+
+-- it is an answer of the header's bytes
 pub from_torn_header : (old : Reading) (fault : PcapFault) → IsTornHeader old fault → InHeader old (pull.Bad fault)
-from_torn_header old (Torn place) (finished, place-is, (start, short)) = (start, inl (short, rw (finished, place-is) refl))
-from_torn_header old Magic wrong = absurd wrong
-from_torn_header old Version wrong = absurd wrong
-from_torn_header old Link wrong = absurd wrong
-from_torn_header old (TooLong place len) wrong = absurd wrong
-from_torn_header old (Fraction place) wrong = absurd wrong
+from_torn_header old fault torn =
+    let is = torn_header_is old fault torn in
+    let answer : pull.Bad (Torn old.place) ≡ cond old.finished (pull.Bad (Torn old.place)) pull.More = rw is.0 refl in
+    (is.2, inl (is.3, ap (λ (f : PcapFault). pull.Bad f) is.1 ∙ answer))
 
 -- an answer is of the header or of a record
 pub kinds : (old new : Reading) (answer : Pull) → Pulls old answer new

@@ -1,3 +1,4 @@
+pub mod Calls
 pub mod Classic
 pub mod Emitted
 pub mod Faulty
