@@ -1,9 +1,9 @@
 -- What calls of a reader fed and gave, in whatever pieces.
-use Rattle.std.proofs.Common.{◌≡◌, ◌∙◌, sym, ap, subst, refl, ◌⊎◌, inl, inr, ℕ, true, ◌+◌, ◌<◌, Some, None, List, [], ◌∷◌, ◌++◌, length, append_assoc, arith}
-use Rattle.std.proofs.lemmas.List.{append-nil, length-append}
+use Rattle.std.proofs.Common.{◌≡◌, ◌∙◌, sym, ap, subst, refl, inl, inr, ℕ, true, Some, List, [], ◌∷◌, ◌++◌, length, append_assoc, arith}
+use Rattle.std.proofs.lemmas.List.{append-nil}
 use Rattle.onvm_base.specs.declared.frame.Frame.{Frame}
-use Rattle.pcap_in.specs.Calls.{Call, Feed, Finish, Next, HasRead, IsBehind, Lead, fed_by, given_by, if_frame}
-use Rattle.pcap_in.specs.Classic.{AreRecords, IsCapture, IsCaptureIn, IsHeader, IsRecord}
+use Rattle.pcap_in.specs.Calls.{Call, Feed, Finish, Next, HasRead, Lead, fed_by, given_by, if_frame}
+use Rattle.pcap_in.specs.Classic.{AreRecords, IsCapture, IsCaptureIn}
 use Rattle.pcap_in.specs.Reading.{AreLeft, Reading, Pulls, unfed}
 use Rattle.pcap_in.specs.declared.pull.Pull.{Pull}
 use Rattle.pcap_in.specs.declared.pull.Pull.TheVariants as pull

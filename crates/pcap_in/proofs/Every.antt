@@ -1,7 +1,7 @@
 -- Every text has a reading.
-use Rattle.std.proofs.Common.{◌≡◌, ◌≢◌, ◌∙◌, sym, ap, subst, refl, ◌⊎◌, inl, inr, ℕ, zero, suc, true, ◌+◌, ◌-◌, ◌<◌, ◌≤◌, List, [], ◌∷◌, ◌++◌, length, take, drop, arith}
+use Rattle.std.proofs.Common.{◌≡◌, ◌≢◌, sym, ap, refl, ◌⊎◌, inl, inr, ℕ, zero, suc, ◌+◌, ◌-◌, ◌<◌, ◌≤◌, List, [], ◌∷◌, ◌++◌, length, take, drop, arith}
 use Rattle.std.proofs.lemmas.Bool.{cases_lt}
-use Rattle.std.proofs.lemmas.List.{length-drop, length-take-le, take-append-drop}
+use Rattle.std.proofs.lemmas.List.{length-drop, take-append-drop}
 use Rattle.onvm_base.specs.declared.frame.Frame.{Frame}
 use Rattle.onvm_base.specs.declared.limits.TheConstants.{MAX_FRAME_BYTES}
 use Rattle.pcap_in.specs.Classic.{AreRecords, HasMagic, IsCapture, IsHeader, IsRecord}
@@ -15,7 +15,6 @@ use Rattle.pcap_in.specs.declared.spelling.Head.{Head}
 use Rattle.pcap_in.specs.declared.spelling.Spelling.{Spelling}
 use Rattle.pcap_in.specs.declared.spelling.Unit.{Unit}
 use Rattle.pcap_in.specs.declared.spelling.Unit.TheVariants.{Micros, Nanos}
-use Rattle.pcap_in.proofs.Grammar.{spelling_same}
 use Rattle.pcap_in.proofs.Judging.{header_of, record_of}
 
 -- two numbers are the same or not

@@ -2,10 +2,9 @@
 use Rattle.std.proofs.Common.{◌≡◌, ◌∙◌, sym, ap, subst, inl, inr, ◌⊎◌, ℕ, true, ◌+◌, ◌<◌, ◌≤◌, List, [], ◌∷◌, ◌++◌, length, append_assoc, arith, refl}
 use Rattle.std.proofs.lemmas.List.{length-append}
 use Rattle.onvm_base.specs.declared.frame.Frame.{Frame}
-use Rattle.pcap_in.specs.Classic.{IsHeader, IsRecord, AreRecords, IsCapture, IsCaptureIn}
+use Rattle.pcap_in.specs.Classic.{IsRecord, AreRecords, IsCapture}
 use Rattle.pcap_in.specs.Faulty.{AreRecordsUpTo, BreaksHeader, BreaksRecord, EndsInRecord, IsCaptureUpTo, IsTornRecord}
 use Rattle.pcap_in.specs.declared.pull.PcapFault.{PcapFault}
-use Rattle.pcap_in.specs.declared.pull.PcapFault.TheVariants.{Torn}
 use Rattle.pcap_in.specs.declared.spelling.Spelling.{Spelling}
 use Rattle.pcap_in.proofs.Grammar.{not_nothing, one_header, one_record}
 use Rattle.pcap_in.proofs.Items.{ends_unbroken, head_once, header_keeps, header_once, record_keeps, record_whole, torn_is}

@@ -1,10 +1,10 @@
 -- What was read of the bytes fed: more bytes, a frame more, the end and a fault.
-use Rattle.std.proofs.Common.{◌≡◌, ◌∙◌, sym, ap, subst, refl, ◌⊎◌, inl, inr, ℕ, Bool, true, ◌+◌, ◌<◌, ◌≤◌, Some, None, List, [], ◌∷◌, ◌++◌, length, append_assoc, arith}
+use Rattle.std.proofs.Common.{◌≡◌, ◌∙◌, sym, ap, subst, refl, ◌⊎◌, inl, inr, ℕ, Bool, true, ◌+◌, ◌<◌, Some, None, List, [], ◌∷◌, ◌++◌, length, append_assoc, arith}
 use Rattle.std.proofs.lemmas.List.{append-nil, length-append}
 use Rattle.onvm_base.specs.declared.frame.Frame.{Frame}
 use Rattle.pcap_in.specs.Calls.{HasRead, IsBehind}
 use Rattle.pcap_in.specs.Classic.{AreRecords, IsCapture, IsCaptureIn, IsHeader, IsRecord}
-use Rattle.pcap_in.specs.Faulty.{AreRecordsUpTo, BreaksRecord, IsCaptureUpTo, IsTornRecord}
+use Rattle.pcap_in.specs.Faulty.{AreRecordsUpTo, IsCaptureUpTo, IsTornRecord}
 use Rattle.pcap_in.specs.Reading.{Reading, AtRecord, IsFaulty, IsTornHeader, Pulls}
 use Rattle.pcap_in.specs.declared.pull.PcapFault.{PcapFault}
 use Rattle.pcap_in.specs.declared.pull.PcapFault.TheVariants.{Torn}

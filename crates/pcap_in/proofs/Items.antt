@@ -1,11 +1,11 @@
 -- Headers and records that are whole, broken or torn: each is one of these, in one way.
-use Rattle.std.proofs.Common.{◌≡◌, ◌≢◌, ◌∙◌, sym, ap, subst, inl, inr, ◌⊎◌, ℕ, Bool, true, ◌+◌, ◌<◌, ◌≤◌, List, [], ◌++◌, length, take, arith, refl}
+use Rattle.std.proofs.Common.{◌≡◌, ◌∙◌, sym, ap, subst, inl, inr, ◌⊎◌, ℕ, Bool, true, ◌<◌, ◌≤◌, List, ◌++◌, length, arith, refl}
 use Rattle.std.proofs.lemmas.List.{length-append, take-append-le}
 use Rattle.onvm_base.specs.declared.frame.Frame.{Frame}
 use Rattle.onvm_base.specs.declared.limits.TheConstants.{MAX_FRAME_BYTES}
 use Rattle.pcap_in.specs.Classic.{HasMagic, IsHeader, IsRecord}
 use Rattle.pcap_in.specs.Faulty.{BreaksHeader, BreaksRecord, EndsInRecord, HasVersion, IsTornRecord}
-use Rattle.pcap_in.specs.Spelling.{number, per_second}
+use Rattle.pcap_in.specs.Spelling.{number}
 use Rattle.pcap_in.specs.declared.pull.PcapFault.{PcapFault}
 use Rattle.pcap_in.specs.declared.pull.PcapFault.TheVariants.{Magic, Version, Link, Torn, TooLong, Fraction}
 use Rattle.pcap_in.specs.declared.spelling.Spelling.{Spelling}

@@ -2,7 +2,7 @@
 use Rattle.std.proofs.Common.{◌≡◌, ◌∙◌, sym, ap, subst, inl, inr, ◌⊎◌, ℕ, Bool, true, false, ◌+◌, ◌<◌, ◌≤◌, Option, Some, None, List, [], ◌∷◌, ◌++◌, length, arith, refl, cond}
 use Rattle.std.proofs.lemmas.List.{length-append}
 use Rattle.onvm_base.specs.declared.frame.Frame.{Frame}
-use Rattle.pcap_in.specs.Classic.{IsHeader, IsRecord}
+use Rattle.pcap_in.specs.Classic.{IsRecord}
 use Rattle.pcap_in.specs.Faulty.{BreaksHeader, BreaksRecord, EndsInRecord, IsTornRecord}
 use Rattle.pcap_in.specs.Reading.{Reading, Pulls, AtRecord, IsTornHeader}
 use Rattle.pcap_in.specs.declared.pull.PcapFault.{PcapFault}

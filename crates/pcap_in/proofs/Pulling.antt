@@ -3,7 +3,7 @@ use Rattle.std.proofs.Common.{◌≡◌, ◌∙◌, sym, ap, subst, inl, inr, �
 use Rattle.std.proofs.lemmas.List.{length-take-le, take-append-drop, drop-drop}
 use Rattle.onvm_base.specs.declared.frame.Stamp.{Stamp}
 use Rattle.pcap_in.specs.Classic.{IsHeader, IsRecord}
-use Rattle.pcap_in.specs.Faulty.{BreaksRecord, EndsInRecord, IsTornRecord}
+use Rattle.pcap_in.specs.Faulty.{EndsInRecord, IsTornRecord}
 use Rattle.pcap_in.specs.Reading.{Reading, Pulls, AtRecord}
 use Rattle.pcap_in.specs.Judged.{PullsRecord}
 use Rattle.pcap_in.specs.declared.pull.Pull.{Pull}

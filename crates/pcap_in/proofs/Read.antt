@@ -1,8 +1,9 @@
 -- A reader of a capture gives the capture's frames.
-use Rattle.std.proofs.Common.{◌≡◌, ◌∙◌, sym, subst, inl, inr, ℕ, Bool, true, ◌+◌, Some, None, List, [], ◌∷◌, ◌++◌, length, refl}
+use Rattle.std.proofs.Common.{◌≡◌, ◌∙◌, sym, ap, subst, inl, inr, ℕ, Bool, true, ◌+◌, Some, None, List, [], ◌∷◌, length, arith, refl}
+use Rattle.std.proofs.lemmas.List.{length-append}
 use Rattle.onvm_base.specs.declared.frame.Frame.{Frame}
-use Rattle.pcap_in.specs.Classic.{AreRecords, IsCapture, IsRecord}
-use Rattle.pcap_in.specs.Reading.{Reading, Pulls, AreLeft}
+use Rattle.pcap_in.specs.Classic.{AreRecords, IsCapture}
+use Rattle.pcap_in.specs.Reading.{Reading, Pulls, AreLeft, AtRecord}
 use Rattle.pcap_in.specs.declared.pull.Pull.{Pull}
 use Rattle.pcap_in.specs.declared.pull.Pull.TheVariants as pull
 use Rattle.pcap_in.specs.declared.spelling.Spelling.{Spelling}
@@ -70,3 +71,20 @@ pub capture_of_left : (text : List ℕ) (finished : Bool) (frames : List Frame)
     → AreLeft (record { spelling = None; place = 0; rest = text; finished = finished }) frames → IsCapture text frames
 capture_of_left text finished frames (inl (start, s, header, rest, text-is, is, records)) = (s, (header, rest, text-is, is, records))
 capture_of_left text finished frames (inr (s, known, records)) = absurd (cc)
+
+-- no byte is lost, and none is made up
+used_up : (old new : Reading) (frame : Frame) → AtRecord old (GivesFrame frame new)
+    → new.place + length new.rest ≡ old.place + length old.rest
+used_up old new frame (inl (start, s, header, rest, text, is, (known, bytes, rest-is, record-is, place))) =
+    omega (arith, place, ap (length {A = ℕ}) text, length-append header rest, is.size, ap (length {A = ℕ}) rest-is, length-append bytes new.rest)
+used_up old new frame (inr (s, there, (known, bytes, rest-is, record-is, place))) =
+    omega (arith, place, ap (length {A = ℕ}) rest-is, length-append bytes new.rest)
+
+abbrev pub KeepsBytes : Reading → Reading → Type 0
+KeepsBytes old new = (new.place + length new.rest ≡ old.place + length old.rest) × (new.finished ≡ old.finished)
+
+pub bytes_kept : (old new : Reading) (answer : Pull) → Pulls old answer new → KeepsBytes old new
+bytes_kept old new (pull.Frame frame) (kept, there) = (used_up old new frame there, kept)
+bytes_kept old new pull.More (same, more, ends) = rw same (refl, refl)
+bytes_kept old new pull.End (same, finished, end) = rw same (refl, refl)
+bytes_kept old new (pull.Bad fault) (same, faulty) = rw same (refl, refl)

@@ -1,12 +1,11 @@
 -- A fault that was told is told from then on.
-use Rattle.std.proofs.Common.{◌≡◌, ◌∙◌, sym, ap, subst, refl, ◌⊎◌, inl, inr, ℕ, Bool, true, false, ◌+◌, ◌≤◌, Some, None, List, [], ◌∷◌, ◌++◌, length, append_assoc, arith}
+use Rattle.std.proofs.Common.{◌≡◌, ◌∙◌, sym, ap, subst, refl, inl, inr, ℕ, true, false, ◌+◌, List, [], ◌∷◌, ◌++◌, append_assoc, arith}
 use Rattle.std.proofs.lemmas.List.{length-append}
 use Rattle.pcap_in.specs.Calls.{Call, Feed, Finish, Next, Lead}
 use Rattle.pcap_in.specs.Reading.{AtRecord, IsFaulty, Reading, Pulls}
 use Rattle.pcap_in.specs.declared.pull.PcapFault.{PcapFault}
 use Rattle.pcap_in.specs.declared.pull.Pull.{Pull}
 use Rattle.pcap_in.specs.declared.pull.Pull.TheVariants as pull
-use Rattle.pcap_in.specs.declared.spelling.Spelling.{Spelling}
 use Rattle.pcap_in.proofs.Items.{BreaksHeader-append, BreaksRecord-append, torn_is}
 use Rattle.pcap_in.proofs.OneAnswer.{Broken, pulls_once, reading_same, torn_header_is}
 

@@ -31,7 +31,7 @@ impl Model for Reader {
           spelling = r.spelling;
           place = r.place;
           rest = drop r.used r.buffer.items;
-          finished = r.finished
+          finished = r.finished;
         } };
 
     ghost invariant = { λ r.

@@ -37,8 +37,11 @@ pub struct Head {
 }
 
 const MICROS_LITTLE: [u8; 4] = [0xd4, 0xc3, 0xb2, 0xa1];
+
 const MICROS_BIG: [u8; 4] = [0xa1, 0xb2, 0xc3, 0xd4];
+
 const NANOS_LITTLE: [u8; 4] = [0x4d, 0x3c, 0xb2, 0xa1];
+
 const NANOS_BIG: [u8; 4] = [0xa1, 0xb2, 0x3c, 0x4d];
 
 /// The spelling of a capture that begins with these bytes, if it is one.

@@ -1,4 +1,4 @@
-use Rattle.std.proofs.Common.{◌≡◌, ◌∙◌, arith}
+use Rattle.std.proofs.Common.{arith}
 use Rattle.pcap_in.proofs.Judging.{record_of}
 use Rattle.pcap_in.proofs.judge.judge_record.Goals as goal
 
