@@ -1,6 +1,6 @@
 -- What two exchanges make of a list with new items at its end.
-use Rattle.std.proofs.Common.{◌≡◌, ◌∙◌, sym, ap, ℕ, ◌+◌, ◌-◌, ◌≤◌, List, [], ◌++◌, length, take, drop, append_assoc, arith, refl, rules}
-use Rattle.std.proofs.lemmas.List.{take_at, drop_at, take-append-le, drop-append-le, length-append, length-take-le, length-drop, take-append-drop, drop-drop}
+use Rattle.std.proofs.Common.{◌≡◌, ◌∙◌, sym, ap, ℕ, ◌-◌, ◌≤◌, List, ◌++◌, length, take, drop, append_assoc, arith, refl}
+use Rattle.std.proofs.lemmas.List.{take_at, drop_at, length-append, length-take-le, length-drop, take-append-drop, drop-drop}
 
 -- the items behind from, in the order that an exchange at mid leaves
 abbrev pub exchanged : {X : Type 0} → List X → ℕ → ℕ → List X

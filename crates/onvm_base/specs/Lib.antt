@@ -1,1 +1,4 @@
+pub mod Moves
+pub mod Plan
+pub mod Services
 pub mod Status

@@ -1,5 +1,6 @@
 //! What a capture holds.
 
+use crate::ids::FrameId;
 use crate::list::ListOf;
 use crate::packet::Packet;
 
@@ -22,3 +23,13 @@ pub struct Frame {
 }
 
 pub type Frames = ListOf<Frame>;
+
+/// A frame that was sent, with the bytes that it was sent with.
+#[derive(Debug, Drop)]
+pub struct SentFrame {
+    pub frame: FrameId,
+    pub stamp: Stamp,
+    pub packet: Packet,
+}
+
+pub type SentFrames = ListOf<SentFrame>;
