@@ -1,17 +1,20 @@
 -- What calls of a reader fed and gave, in whatever pieces.
-use Rattle.std.proofs.Common.{◌≡◌, ◌∙◌, sym, ap, subst, refl, inl, inr, ℕ, true, Some, List, [], ◌∷◌, ◌++◌, length, append_assoc, arith}
+use Rattle.std.proofs.Common.{◌≡◌, ◌∙◌, sym, ap, subst, refl, ◌⊎◌, inl, inr, ℕ, true, ◌+◌, ◌<◌, Some, List, [], ◌∷◌, ◌++◌, length, append_assoc, arith}
 use Rattle.std.proofs.lemmas.List.{append-nil}
 use Rattle.onvm_base.specs.declared.frame.Frame.{Frame}
 use Rattle.pcap_in.specs.Calls.{Call, Feed, Finish, Next, HasRead, Lead, fed_by, given_by, if_frame}
 use Rattle.pcap_in.specs.Classic.{AreRecords, IsCapture, IsCaptureIn}
-use Rattle.pcap_in.specs.Reading.{AreLeft, Reading, Pulls, unfed}
+use Rattle.pcap_in.specs.Faulty.{EndsInRecord, IsCaptureUpTo}
+use Rattle.pcap_in.specs.Reading.{AreLeft, AtRecord, EndsInHeader, IsFaulty, Reading, Pulls, unfed}
+use Rattle.pcap_in.specs.declared.pull.PcapFault.TheVariants.{Torn}
 use Rattle.pcap_in.specs.declared.pull.Pull.{Pull}
 use Rattle.pcap_in.specs.declared.pull.Pull.TheVariants as pull
 use Rattle.pcap_in.specs.declared.spelling.Spelling.{Spelling}
 use Rattle.pcap_in.proofs.Faults.{records_first}
 use Rattle.pcap_in.proofs.Grammar.{one_header, one_record}
-use Rattle.pcap_in.proofs.HasRead.{HasRead-fed, HasRead-length, HasRead-pulled}
+use Rattle.pcap_in.proofs.HasRead.{ended_at, HasRead-fed, HasRead-length, HasRead-pulled, IsCaptureUpTo-met}
 use Rattle.pcap_in.proofs.OneAnswer.{reading_same}
+use Rattle.pcap_in.proofs.Told.{ended}
 
 -- an answer is a frame more, or none
 HasRead-answered : (fed : List ℕ) (frames : List Frame) (answer : Pull) (old new : Reading) → HasRead fed frames old
@@ -116,3 +119,43 @@ AreLeft-read fed given frames reading (inr behind) (s, (header, rest, text, is, 
         let P : Spelling → Type 0 = λ u. AreRecords u rest frames in
         let split = records_first behind.spelling rest c reading.rest frames given (subst P same.0 records) same.1 first in
         (split.0, split.1, inr (behind.spelling, behind.known, split.2))
+
+nothing_or_some : (rest : List ℕ) → (rest ≡ []) ⊎ (0 < length rest)
+nothing_or_some [] = inl refl
+nothing_or_some (byte ∷ bytes) = inr (omega arith)
+
+-- where more is wanted and no more came, the capture has ended or is torn
+ended_or_torn : (reading : Reading) → EndsInHeader reading ⊎ AtRecord reading (λ s at rest. EndsInRecord s rest)
+    → AtRecord reading (λ s at rest. rest ≡ []) ⊎ ((at : ℕ) × IsFaulty (ended reading) (Torn at))
+ended_or_torn reading (inl (none, short)) = inr (reading.place, inr (inr (inl (refl, refl, (none, short)))))
+ended_or_torn reading (inr (inl (start, s, header, rest, text, is, ends))) = first (nothing_or_some rest)
+  where
+    first : (rest ≡ []) ⊎ (0 < length rest)
+        → AtRecord reading (λ s at rest. rest ≡ []) ⊎ ((at : ℕ) × IsFaulty (ended reading) (Torn at))
+    first (inl none) = inl (inl (start, s, header, rest, text, is, none))
+    first (inr some) =
+        inr (reading.place + 24, inr (inr (inr (inl (start, s, header, rest, text, is, (refl, refl, some, ends))))))
+ended_or_torn reading (inr (inr (s, known, ends))) = next (nothing_or_some reading.rest)
+  where
+    next : (reading.rest ≡ []) ⊎ (0 < length reading.rest)
+        → AtRecord reading (λ s at rest. rest ≡ []) ⊎ ((at : ℕ) × IsFaulty (ended reading) (Torn at))
+    next (inl none) = inl (inr (s, known, none))
+    next (inr some) = inr (reading.place, inr (inr (inr (inr (s, known, (refl, refl, some, ends))))))
+
+-- so the bytes fed are a capture of the frames given, or one that is torn behind them
+pub short_read : (fed : List ℕ) (given : List Frame) (reading next : Reading) → HasRead fed given reading → Pulls reading pull.More next
+    → IsCapture fed given ⊎ ((at : ℕ) × IsCaptureUpTo fed given (Torn at))
+short_read fed given reading next read (same, unfinished, ends) = told (ended_or_torn reading ends)
+  where
+    told : AtRecord reading (λ s at rest. rest ≡ []) ⊎ ((at : ℕ) × IsFaulty (ended reading) (Torn at))
+        → IsCapture fed given ⊎ ((at : ℕ) × IsCaptureUpTo fed given (Torn at))
+    told (inl there) = inl (ended_at fed given reading read there)
+    told (inr (at, faulty)) =
+        let over = HasRead-fed fed [] given reading (ended reading) read refl refl (sym (append-nil reading.rest)) in
+        let P : List ℕ → Type 0 = λ t. IsCaptureUpTo t given (Torn at) in
+        let Q : List ℕ → Type 0 = λ t. HasRead t given (ended reading) in
+        inr (
+          at,
+          subst P (append-nil fed)
+              (IsCaptureUpTo-met fed [] given (ended reading) (Torn at) (subst Q (append-nil fed) over) (λ finished. refl) faulty),
+        )

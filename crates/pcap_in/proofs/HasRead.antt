@@ -107,7 +107,8 @@ HasRead-length fed frames reading (inl (none, zero, empty, fed-is)) = omega (ari
 HasRead-length fed frames reading (inr behind) =
     omega (arith, behind.place, ap (length {A = ℕ}) behind.fed_is, length-append behind.used reading.rest)
 
-ended_at : (fed : List ℕ) (frames : List Frame) (old : Reading) → HasRead fed frames old
+-- where nothing stands at the reader's place, all that was fed is a capture
+pub ended_at : (fed : List ℕ) (frames : List Frame) (old : Reading) → HasRead fed frames old
     → AtRecord old (λ s at rest. rest ≡ []) → IsCapture fed frames
 ended_at fed frames old (inl (none, zero, empty, fed-is)) (inl (start, s, header, rest, text, is, end)) =
     let P : List Frame → Type 0 = λ fs. IsCapture fed fs in

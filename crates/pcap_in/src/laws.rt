@@ -8,6 +8,7 @@ ghost use Rattle.pcap_in.specs.Emitted.{emit, IsEmittable, with_cut_tail};
 ghost use Rattle.pcap_in.specs.Faulty.{IsCaptureUpTo};
 ghost use Rattle.pcap_in.specs.Reading.{Reading, Pulls, AreLeft, unfed};
 ghost use Rattle.pcap_in.specs.declared.pull.PcapFault.{PcapFault};
+ghost use Rattle.pcap_in.specs.declared.pull.PcapFault.TheVariants.{Torn};
 ghost use Rattle.pcap_in.specs.declared.pull.Pull.{Pull};
 ghost use Rattle.pcap_in.specs.declared.pull.Pull.TheVariants as pull;
 
@@ -112,12 +113,17 @@ pub fn a_pulled_frame_was_left()
 
 /// Of the bytes fed, in whatever pieces, a reader gives the frames: with the next one they are those
 /// of a capture that the bytes begin with, at the end those of the bytes, and at a fault those
-/// before it, whatever more might have been fed.
+/// before it, whatever more might have been fed. Where more bytes are wanted and none came, the
+/// capture would have ended or be torn.
 pub fn pulls_are_of_the_bytes_fed()
     ensures frame { (calls : List Call) (reading next : Reading) (frame : Frame)
         → Lead calls unfed reading → Pulls reading (pull.Frame frame) next
         → (used : List ℕ) × (fed_by calls ≡ used ++ next.rest)
         × IsCapture used (given_by calls ++ frame ∷ []) }
+    ensures more { (calls : List Call) (reading next : Reading)
+        → Lead calls unfed reading → Pulls reading pull.More next
+        → IsCapture (fed_by calls) (given_by calls)
+        ⊎ ((at : ℕ) × IsCaptureUpTo (fed_by calls) (given_by calls) (Torn at)) }
     ensures end { (calls : List Call) (reading next : Reading)
         → Lead calls unfed reading → Pulls reading pull.End next
         → IsCapture (fed_by calls) (given_by calls) }
