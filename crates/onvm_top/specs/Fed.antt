@@ -1,22 +1,7 @@
--- What stands between a capture's bytes and the frames that were read of them.
-use Rattle.std.specs.Prelude.{◌≡◌, ◌⊎◌, ℕ, ◌<◌, true, false, Option, List, [], ◌++◌, length}
+-- How a capture's bytes come from a source to a reader.
+use Rattle.std.specs.Prelude.{◌≡◌, ℕ, ◌<◌, true, false, Option, List, ◌++◌, length}
 use Rattle.std.specs.Io.KnownBytes.{Consumes, IsAtEnd}
-use Rattle.onvm_base.specs.declared.frame.Frame.{Frame}
-use Rattle.pcap_in.specs.Classic.{IsCapture}
 use Rattle.pcap_in.specs.Reading.{Reading}
-
--- behind a capture of these frames the bytes fed have the reader's rest
-pub record IsBehind (fed : List ℕ) (frames : List Frame) (reading : Reading) : Type 0 where
-  pub used : List ℕ
-  pub is_capture : IsCapture used frames
-  pub fed_is : fed ≡ used ++ reading.rest
-  pub place : reading.place ≡ length used
-
--- no frame was read, or these
-abbrev pub HasRead : List ℕ → List Frame → Reading → Type 0
-HasRead fed frames reading =
-    ((reading.place ≡ 0) × (frames ≡ []) × (fed ≡ reading.rest))
-    ⊎ ((0 < reading.place) × IsBehind fed frames reading)
 
 -- more bytes may come, and what is kept is less than a header and a record
 pub record EndsEarly (reading : Reading) : Type 0 where
@@ -27,6 +12,7 @@ pub record EndsEarly (reading : Reading) : Type 0 where
 pub record Feeds (left left' : Option (List ℕ)) (old new : Reading) : Type 0 where
   pub bytes : List ℕ
   pub consumed : Consumes left left' bytes
+  pub spelling : new.spelling ≡ old.spelling
   pub place : new.place ≡ old.place
   pub rest : new.rest ≡ old.rest ++ bytes
   pub some : new.finished ≡ false → 0 < length bytes

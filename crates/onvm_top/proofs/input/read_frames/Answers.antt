@@ -2,7 +2,8 @@ use Rattle.std.proofs.Common.{◌≡◌, ◌∙◌, sym, ap, subst, ◌++◌, Li
 use Rattle.std.proofs.lemmas.List.{length-append}
 use Rattle.onvm_base.specs.declared.frame.Frame.{Frame}
 use Rattle.pcap_in.specs.Classic.{IsCapture}
-use Rattle.onvm_top.proofs.Captured.{HasRead-bound, HasRead-fed, HasRead-length}
+use Rattle.pcap_in.proofs.HasRead.{HasRead-fed, HasRead-length}
+use Rattle.onvm_top.proofs.Captured.{HasRead-bound}
 use Rattle.std.proofs.lemmas.Result.{err_from_is_err_and}
 use Rattle.pcap_in.specs.Faulty.{IsCaptureUpTo}
 use Rattle.onvm_top.specs.Limits.{IsWithinLimits, PassesLimit}
@@ -21,7 +22,7 @@ returns-then-branch-clause-whole g c = λ text told.
     let read = c.pieces.invariant.read in
     let feeds = c.in_ok-feed_piece.ensures.ok in
     let fed : List ℕ = read.0 ++ feeds.bytes in
-    let now = HasRead-fed read.0 feeds.bytes c.pieces.received c.pieces.reader c.feed_piece.new.reader read.2 feeds.place feeds.rest in
+    let now = HasRead-fed read.0 feeds.bytes c.pieces.received c.pieces.reader c.feed_piece.new.reader read.2 feeds.spelling feeds.place feeds.rest in
     let is = c.in_ok-pull_frames.ensures.ended (ap Ok c.if-branch.true) fed now in
     let all = Consumes-append _ _ _ read.0 feeds.bytes read.1 feeds.consumed in
     let whole = Consumes-to_end _ _ text fed told all (feeds.at_end (c.in_ok-pull_frames.ensures.finished.0 ∙ c.if-branch.true)) in
@@ -34,7 +35,7 @@ pieces-smaller g c =
     let kept = c.pieces.invariant in
     let feeds = c.in_ok-feed_piece.ensures.ok in
     let fed : List ℕ = kept.read.0 ++ feeds.bytes in
-    let now = HasRead-fed kept.read.0 feeds.bytes c.pieces.received c.pieces.reader c.feed_piece.new.reader kept.read.2 feeds.place feeds.rest in
+    let now = HasRead-fed kept.read.0 feeds.bytes c.pieces.received c.pieces.reader c.feed_piece.new.reader kept.read.2 feeds.spelling feeds.place feeds.rest in
     let then = c.in_ok-pull_frames.ensures.read fed now in
     let some = feeds.some (c.in_ok-pull_frames.ensures.finished.0 ∙ c.if-branch.false) in
     let before = HasRead-length kept.read.0 c.pieces.received c.pieces.reader kept.read.2 in
@@ -47,7 +48,7 @@ pieces-preserved g c =
     let kept = c.pieces.invariant in
     let feeds = c.in_ok-feed_piece.ensures.ok in
     let fed : List ℕ = kept.read.0 ++ feeds.bytes in
-    let now = HasRead-fed kept.read.0 feeds.bytes c.pieces.received c.pieces.reader c.feed_piece.new.reader kept.read.2 feeds.place feeds.rest in
+    let now = HasRead-fed kept.read.0 feeds.bytes c.pieces.received c.pieces.reader c.feed_piece.new.reader kept.read.2 feeds.spelling feeds.place feeds.rest in
     let early = c.in_ok-pull_frames.ensures.more (ap Ok c.if-branch.false) in
     record {
       later = omega (arith, kept.later, c.in_ok-feed_piece.ensures.later);
@@ -65,7 +66,7 @@ returns-in_err-pull_frames-clause-broken g c =
     let read = c.pieces.invariant.read in
     let feeds = c.in_ok-feed_piece.ensures.ok in
     let fed : List ℕ = read.0 ++ feeds.bytes in
-    let now = HasRead-fed read.0 feeds.bytes c.pieces.received c.pieces.reader c.feed_piece.new.reader read.2 feeds.place feeds.rest in
+    let now = HasRead-fed read.0 feeds.bytes c.pieces.received c.pieces.reader c.feed_piece.new.reader read.2 feeds.spelling feeds.place feeds.rest in
     let all = Consumes-append _ _ _ read.0 feeds.bytes read.1 feeds.consumed in
     let rest = Consumes-rest _ _ text fed left all in
     let P : List ℕ → Type 0 = λ t. (frames : List Frame) × IsCaptureUpTo t frames told × IsWithinLimits frames in
@@ -80,7 +81,7 @@ returns-in_err-pull_frames-clause-too_many g c =
     let read = c.pieces.invariant.read in
     let feeds = c.in_ok-feed_piece.ensures.ok in
     let fed : List ℕ = read.0 ++ feeds.bytes in
-    let now = HasRead-fed read.0 feeds.bytes c.pieces.received c.pieces.reader c.feed_piece.new.reader read.2 feeds.place feeds.rest in
+    let now = HasRead-fed read.0 feeds.bytes c.pieces.received c.pieces.reader c.feed_piece.new.reader read.2 feeds.spelling feeds.place feeds.rest in
     let all = Consumes-append _ _ _ read.0 feeds.bytes read.1 feeds.consumed in
     let rest = Consumes-rest _ _ text fed left all in
     let P : List ℕ → Type 0 = PassesLimit in

@@ -1,6 +1,6 @@
 use Rattle.std.proofs.Common.{◌≡◌, ◌≤◌, ◌<◌, ◌+◌, ◌-◌, List, ℕ, length, false}
 use Rattle.std.specs.Io.KnownBytes.{Consumes}
-use Rattle.onvm_top.specs.Fed.{HasRead}
+use Rattle.pcap_in.specs.Calls.{HasRead}
 use Rattle.onvm_top.specs.Limits.{IsWithinLimits}
 use Rattle.onvm_top.proofs.input.read_frames.Given as goal
 
