@@ -1,6 +1,9 @@
 pub mod Answered
 pub mod Captured
 pub mod Emitting
+pub mod Fed
+pub mod Kept
 pub mod Known
+pub mod Moved
 pub mod Sent
-pub mod Stopped
+pub mod Story

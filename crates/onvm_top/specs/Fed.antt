@@ -1,7 +1,8 @@
 -- What stands between a capture's bytes and the frames that were read of them.
-use Rattle.std.specs.Prelude.{◌≡◌, ◌⊎◌, ℕ, ◌<◌, true, false, Option, List, [], ◌++◌, length}
+use Rattle.std.specs.Prelude.{◌≡◌, ◌⊎◌, ℕ, ◌<◌, true, false, Option, Some, List, [], ◌∷◌, ◌++◌, length}
 use Rattle.std.specs.Io.KnownBytes.{Consumes, IsAtEnd}
 use Rattle.onvm_base.specs.declared.frame.Frame.{Frame}
+use Rattle.onvm_host.specs.Deeds.{Amounts}
 use Rattle.pcap_in.specs.Classic.{IsCapture}
 use Rattle.pcap_in.specs.Reading.{Reading}
 
@@ -23,10 +24,11 @@ pub record EndsEarly (reading : Reading) : Type 0 where
   pub unfinished : reading.finished ≡ false
   pub short : length reading.rest < 262184
 
--- the reader was fed the next bytes of a source: some, or at the source's end none
-pub record Feeds (left left' : Option (List ℕ)) (old new : Reading) : Type 0 where
+-- the reader was fed what one take gave: the next bytes of a source, or none at the source's end
+pub record Feeds (left left' : Option (List ℕ)) (takes takes' : Amounts) (old new : Reading) : Type 0 where
   pub bytes : List ℕ
   pub consumed : Consumes left left' bytes
+  pub taken : takes' ≡ takes ++ Some (length bytes) ∷ []
   pub place : new.place ≡ old.place
   pub rest : new.rest ≡ old.rest ++ bytes
   pub some : new.finished ≡ false → 0 < length bytes
