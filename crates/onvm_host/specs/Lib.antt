@@ -1,5 +1,7 @@
-pub mod Causes
+pub mod Deeds
 pub mod Files
 pub mod Given
 pub mod Memory
+pub mod Names
+pub mod Story
 pub mod Written

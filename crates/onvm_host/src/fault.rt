@@ -1,5 +1,4 @@
-//! Why a host did not open or create, and how faults are counted.
-ghost use Rattle.std.specs.Prelude.{◌≡◌, ◌≤◌, ◌+◌, ◌-◌, ◌^◌, min};
+//! Why a host did not open or create.
 
 use onvm_base::{Failed, NoMemory};
 use std::alloc::{AllocError, AllocFailed};
@@ -56,13 +55,4 @@ impl<T: Drop> From<AllocFailed<T>> for HostFault {
     fn from(_refused: AllocFailed<T>) -> HostFault {
         HostFault::Memory
     }
-}
-
-/// Counts a fault. The count stops at its last value.
-pub(crate) fn raise(faults: &mut u64) -> Failed
-    ensures raised { faults.new ≡ min (faults.old + 1) (2 ^ 64 - 1) }
-    ensures later { faults.old ≤ faults.new }
-{
-    *faults = faults.saturating_add(1);
-    Failed
 }

@@ -1,12 +1,14 @@
 //! A host over real files and standard output. It tells nothing of content.
-ghost use Rattle.std.specs.Prelude.{◌≡◌, ◌≤◌, ◌<◌, ⊤, ℕ, List, Option, None, Ok, IfOk, length, option_and_then};
+ghost use Rattle.std.specs.Prelude.{◌≡◌, ◌↔◌, ◌<◌, ◌∷◌, ◌++◌, ⊤, ℕ, List, [], Option, None, Ok, IfOk, length, option_and_then};
 ghost use Rattle.std.specs.Io.{ReadsAtMost, WritesAtMost};
 ghost use Rattle.std.specs.Io.KnownBytes.{ReadConsumes, WriteAppends};
 ghost use Rattle.std.specs.IoError.{error_kind};
-ghost use Rattle.onvm_host.specs.Causes.{HasCause, Rose};
+ghost use Rattle.std.specs.Result.{result_ok};
+ghost use Rattle.onvm_host.specs.Story.{amounts_of, deeds_of};
 
-use crate::fault::{HostFault, raise};
+use crate::fault::HostFault;
 use crate::name::copy_of;
+use crate::story::{Amounts, Story};
 use crate::traits::{Host, Sink, Source};
 use onvm_base::{Failed, Name};
 use std::fs::File;
@@ -21,13 +23,16 @@ const BUFFER_BYTES: usize = 65_536;
 #[derive(Drop)]
 pub struct FileInput<F> {
     file: F,
-    faults: u64,
+    name: Name,
+    takes: Amounts,
 }
 
 impl<F: Read + Drop> Source for FileInput<F> {
     ghost left = { λ _. None };
 
-    ghost faults = { λ input. input.faults };
+    ghost name = { λ input. input.name };
+
+    ghost takes = { λ input. amounts_of input.takes };
 
     // The bytes are those of the file, which a real one does not tell.
     #[inline]
@@ -35,12 +40,14 @@ impl<F: Read + Drop> Source for FileInput<F> {
         ensures bound { ReadsAtMost result into.new }
         ensures bytes { ReadConsumes (F.remaining self.old.file) (F.remaining self.new.file)
             result into.new }
-        ensures cause { HasCause self.old.faults self.new.faults result }
+        ensures named { self.new.name ≡ self.old.name }
+        ensures told { amounts_of self.new.takes ≡ amounts_of self.old.takes ++ result_ok result ∷ [] }
     {
-        match self.file.read(into) {
+        let answer = match self.file.read(into) {
             Ok(count) => Ok(count),
-            Err(_) => Err(raise(&mut self.faults)),
-        }
+            Err(_) => Err(Failed),
+        };
+        self.takes.add(answer)
     }
 }
 
@@ -73,7 +80,7 @@ impl<F: Write + Drop> Write for Target<F> {
 pub struct FileOutput<F: Write + Drop> {
     writer: BufWriter<Target<F>>,
     name: Name,
-    faults: u64,
+    puts: Amounts,
 }
 
 impl<F: Write + Drop> Sink for FileOutput<F> {
@@ -81,7 +88,7 @@ impl<F: Write + Drop> Sink for FileOutput<F> {
 
     ghost name = { λ output. output.name };
 
-    ghost faults = { λ output. output.faults };
+    ghost puts = { λ output. amounts_of output.puts };
 
     // The bytes go to the file, which a real one does not tell.
     #[inline]
@@ -92,10 +99,10 @@ impl<F: Write + Drop> Sink for FileOutput<F> {
             (⟦<BufWriter<Target<F>> as Write>⟧.contents self.old.writer)
             (⟦<BufWriter<Target<F>> as Write>⟧.contents self.new.writer) result piece.now }
         ensures named { self.new.name ≡ self.old.name }
-        ensures cause { HasCause self.old.faults self.new.faults result }
+        ensures told { amounts_of self.new.puts ≡ amounts_of self.old.puts ++ result_ok result ∷ [] }
     {
-        let answer = self.writer.write(piece);
-        count_of(answer, piece, &mut self.faults)
+        let answer = count_of(self.writer.write(piece), piece);
+        self.puts.add(answer)
     }
 }
 
@@ -103,33 +110,28 @@ impl<F: Write + Drop> Sink for FileOutput<F> {
 #[derive(Drop)]
 pub struct FileHost<R> {
     rt: R,
-    input_faults: u64,
-    output_faults: u64,
+    story: Story,
 }
 
 impl<R> FileHost<R> {
-    /// A host that has counted nothing.
+    /// A host of which no call was made.
     pub fn make(rt: R) -> FileHost<R>
-        ensures inputs { result.input_faults ≡ 0 }
-        ensures outputs { result.output_faults ≡ 0 }
+        ensures { deeds_of result.story ≡ [] }
     {
         FileHost {
             rt,
-            input_faults: 0,
-            output_faults: 0,
+            story: Story::Begin,
         }
     }
 }
 
 // Why a file was not opened or made.
-fn fault_of(error: io::Error, faults: &mut u64) -> HostFault
-    ensures later { faults.old ≤ faults.new }
-    ensures failed { result ≡ HostFault.Failed → Rose faults.old faults.new }
-    ensures memory { result ≡ HostFault.Memory → error_kind error ≡ ErrorKind.OutOfMemory }
+fn fault_of(error: io::Error) -> HostFault
+    ensures { result ≡ HostFault.Memory ↔ error_kind error ≡ ErrorKind.OutOfMemory }
 {
     match error.kind() {
         ErrorKind::OutOfMemory => HostFault::Memory,
-        _ => HostFault::from(raise(faults)),
+        _ => HostFault::Failed,
     }
 }
 
@@ -146,18 +148,30 @@ where
 
     ghost said = { λ _. None };
 
-    ghost input_faults = { λ host. host.input_faults };
-
-    ghost output_faults = { λ host. host.output_faults };
+    ghost deeds = { λ host. deeds_of host.story };
 
     ghost may_open = { λ _ _. ⊤ };
 
     ghost may_create = { λ _ _. ⊤ };
 
     fn open_input(&mut self, name: &str) -> Result<FileInput<R::File>, HostFault> {
+        let copy = copy_of(self.rt.alloc(), name)?;
         match File::open(&self.rt, name) {
-            Ok(file) => Ok(FileInput { file, faults: 0 }),
-            Err(error) => Err(fault_of(error, &mut self.input_faults)),
+            Ok(file) => {
+                self.story.opened(&copy);
+                Ok(FileInput {
+                    file,
+                    name: copy,
+                    takes: Amounts::None,
+                })
+            }
+            Err(error) => match fault_of(error) {
+                HostFault::Memory => Err(HostFault::Memory),
+                HostFault::Failed => {
+                    self.story.open_failed(&copy);
+                    Err(HostFault::Failed)
+                }
+            },
         }
     }
 
@@ -171,51 +185,53 @@ where
         };
         match File::create(&self.rt, name) {
             Ok(file) => writer.get_mut().file = Some(file),
-            Err(error) => return Err(fault_of(error, &mut self.output_faults)),
+            Err(error) => {
+                let fault = fault_of(error);
+                if fault == HostFault::Failed {
+                    self.story.create_failed(&copy);
+                }
+                return Err(fault);
+            }
         }
+        self.story.created(&copy);
         Ok(FileOutput {
             writer,
             name: copy,
-            faults: 0,
+            puts: Amounts::None,
         })
     }
 
     fn shut(&mut self, input: FileInput<R::File>) {
-        if input.faults > 0 {
-            raise(&mut self.input_faults);
-        }
+        self.story.shut(&input.name, &input.takes);
     }
 
     fn keep(&mut self, mut output: FileOutput<R::File>) -> Result<(), Failed> {
-        if output.faults > 0 {
-            raise(&mut self.output_faults);
-        }
-        match output.writer.flush() {
+        let answer = match output.writer.flush() {
             Ok(()) => Ok(()),
-            Err(_) => Err(raise(&mut self.output_faults)),
-        }
+            Err(_) => Err(Failed),
+        };
+        self.story.kept(&output.name, &output.puts, answer)
     }
 
     fn say(&mut self, piece: &[u8]) -> Result<usize, Failed> {
-        let answer = io::writer(&self.rt).write(piece);
-        count_of(answer, piece, &mut self.output_faults)
+        let answer = count_of(io::writer(&self.rt).write(piece), piece);
+        self.story.said(answer)
     }
 }
 
-// How much of a piece was taken. That nothing was, of a piece that is not empty, is a fault.
+// How much of a piece was taken. That nothing was, of a piece that is not empty, is a failed call.
 #[inline]
 #[tactic(auto, using(crate::proofs::Bytes::nothing_appended))]
-fn count_of(answer: io::Result<usize>, piece: &[u8], faults: &mut u64) -> Result<usize, Failed>
+fn count_of(answer: io::Result<usize>, piece: &[u8]) -> Result<usize, Failed>
     requires { WritesAtMost answer piece.now }
     ensures bound { WritesAtMost result piece.now }
     ensures some { IfOk result (λ n. 0 < length piece.now → 0 < n) }
     ensures answered { IfOk answer (λ n. 0 < n → result ≡ Ok n) }
     ensures bytes { (old new : Option (List ℕ)) → WriteAppends old new answer piece.now
         → WriteAppends old new result piece.now }
-    ensures cause { HasCause faults.old faults.new result }
 {
     match answer {
         Ok(count) if count > 0 || piece.is_empty() => Ok(count),
-        _ => Err(raise(faults)),
+        _ => Err(Failed),
     }
 }

@@ -1,9 +1,9 @@
 //! What onvm asks of the outside.
 //!
 //! A *source* gives bytes, a *sink* takes them, and a *host* has files and a place to say things.
-//! Each counts its *faults*: a call answers Failed only where the count rose. Each may *tell* its
-//! content, and where it does, contracts say which bytes came and went. A *clock* answers moments
-//! and spans in nanoseconds. A *gate* is called before each pass of a role.
+//! A host's *deeds* are its calls with what came of each, and some of them are *faults*. Each may
+//! *tell* its content, and where it does, contracts say which bytes came and went. A *clock*
+//! answers moments and spans in nanoseconds. A *gate* is called before each pass of a role.
 #![tactic(auto)]
 
 mod clock;
@@ -11,6 +11,7 @@ mod fault;
 mod file_host;
 mod memory;
 mod name;
+mod story;
 mod sys_clock;
 #[cfg(test)]
 mod tests;

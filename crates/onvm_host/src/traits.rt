@@ -1,9 +1,11 @@
 //! Bytes that come and go, files, and what is said.
-ghost use Rattle.std.specs.Prelude.{◌≡◌, ◌≤◌, ◌<◌, List, [], ℕ, length, IfOk, IsSome, OnErr, Option, option_map, Some};
+ghost use Rattle.std.specs.Prelude.{◌≡◌, ◌<◌, ◌∷◌, ◌++◌, List, [], ℕ, length, IfOk, IsSome, OnErr, Option, option_map, Some};
 ghost use Rattle.std.specs.Io.{ReadsAtMost, WritesAtMost};
 ghost use Rattle.std.specs.Io.KnownBytes.{ReadConsumes, WriteAppends};
-ghost use Rattle.onvm_host.specs.Causes.{HasCause, HasHostCause, Rose, SameNames};
+ghost use Rattle.std.specs.Result.{result_ok};
+ghost use Rattle.onvm_host.specs.Deeds.{Amounts, Deed, Opened, OpenFailed, Shut, Created, CreateFailed, Said, kept_or_failed, made_or_failed};
 ghost use Rattle.onvm_host.specs.Files.{Entries, kept_files, Opens, put_file};
+ghost use Rattle.onvm_host.specs.Names.{SameNames};
 
 use crate::fault::HostFault;
 use onvm_base::Failed;
@@ -13,14 +15,18 @@ pub trait Source {
     /// The bytes that are left, where the source tells them.
     ghost left: { Self → Option (List ℕ) };
 
-    /// How often a call has failed.
-    ghost faults: { Self → ℕ };
+    /// The name of the file that it reads.
+    ghost name: { Self → List ℕ };
+
+    /// What each take gave, in order.
+    ghost takes: { Self → Amounts };
 
     /// Moves the next bytes to the front of `into`: none only at the end, or for an empty `into`.
     fn take(&mut self, into: &mut [u8]) -> Result<usize, Failed>
         ensures bound { ReadsAtMost result into.new }
         ensures bytes { ReadConsumes (left self.old) (left self.new) result into.new }
-        ensures cause { HasCause (faults self.old) (faults self.new) result };
+        ensures named { name self.new ≡ name self.old }
+        ensures told { takes self.new ≡ takes self.old ++ result_ok result ∷ [] };
 }
 
 /// Bytes that go out.
@@ -31,8 +37,8 @@ pub trait Sink {
     /// The name of the file that it becomes.
     ghost name: { Self → List ℕ };
 
-    /// How often a call has failed.
-    ghost faults: { Self → ℕ };
+    /// What each put took, in order.
+    ghost puts: { Self → Amounts };
 
     /// Appends the first bytes of the piece, at least one of a piece that is not empty.
     fn put(&mut self, piece: &[u8]) -> Result<usize, Failed>
@@ -40,7 +46,7 @@ pub trait Sink {
         ensures some { IfOk result (λ n. 0 < length piece.now → 0 < n) }
         ensures bytes { WriteAppends (held self.old) (held self.new) result piece.now }
         ensures named { name self.new ≡ name self.old }
-        ensures cause { HasCause (faults self.old) (faults self.new) result };
+        ensures told { puts self.new ≡ puts self.old ++ result_ok result ∷ [] };
 }
 
 /// Files and a place to say things.
@@ -55,11 +61,8 @@ pub trait Host {
     /// What was said, where the host tells it.
     ghost said: { Self → Option (List ℕ) };
 
-    /// How often an input could not be opened, or was shut after a failed take.
-    ghost input_faults: { Self → ℕ };
-
-    /// How often an output could not be created or kept, or something could not be said.
-    ghost output_faults: { Self → ℕ };
+    /// Its calls, in order. Which of them are faults is told by `is_fault`.
+    ghost deeds: { Self → List Deed };
 
     /// Which names may be opened.
     ghost may_open: { Self → List ℕ → Type 0 };
@@ -71,12 +74,12 @@ pub trait Host {
     fn open_input(&mut self, name: &str) -> Result<Self::Input, HostFault>
         requires { may_open self.old name.now }
         ensures left { IfOk result (λ input. Opens (files self.old) name.now (Self.Input.left input)) }
-        ensures fresh { IfOk result (λ input. Self.Input.faults input ≡ 0) }
-        ensures outputs { output_faults self.new ≡ output_faults self.old }
+        ensures named { IfOk result (λ input. Self.Input.name input ≡ name.now) }
+        ensures fresh { IfOk result (λ input. Self.Input.takes input ≡ []) }
         ensures files { files self.new ≡ files self.old }
         ensures said { said self.new ≡ said self.old }
         ensures names { SameNames (may_open self.old) (may_create self.old) (may_open self.new) (may_create self.new) }
-        ensures cause { HasHostCause (input_faults self.old) (input_faults self.new) result };
+        ensures told { deeds self.new ≡ deeds self.old ++ made_or_failed (Opened name.now) (OpenFailed name.now) result };
 
     /// Makes an empty file.
     fn create_output(&mut self, name: &str) -> Result<Self::Output, HostFault>
@@ -84,39 +87,33 @@ pub trait Host {
         ensures made { IfOk result (λ _. files self.new ≡ option_map (put_file name.now []) (files self.old)) }
         ensures empty { IfOk result (λ output. IsSome (files self.old) → Self.Output.held output ≡ Some []) }
         ensures named { IfOk result (λ output. Self.Output.name output ≡ name.now) }
-        ensures fresh { IfOk result (λ output. Self.Output.faults output ≡ 0) }
-        ensures inputs { input_faults self.new ≡ input_faults self.old }
+        ensures fresh { IfOk result (λ output. Self.Output.puts output ≡ []) }
         ensures err { OnErr result (files self.new ≡ files self.old) }
         ensures said { said self.new ≡ said self.old }
         ensures names { SameNames (may_open self.old) (may_create self.old) (may_open self.new) (may_create self.new) }
-        ensures cause { HasHostCause (output_faults self.old) (output_faults self.new) result };
+        ensures told { deeds self.new ≡ deeds self.old ++ made_or_failed (Created name.now) (CreateFailed name.now) result };
 
-    /// Ends an input. Where a call of it failed, the host counts a fault.
+    /// Ends an input. A failed take is a fault of this call.
     fn shut(&mut self, input: Self::Input)
-        ensures outputs { output_faults self.new ≡ output_faults self.old }
         ensures files { files self.new ≡ files self.old }
         ensures said { said self.new ≡ said self.old }
         ensures names { SameNames (may_open self.old) (may_create self.old) (may_open self.new) (may_create self.new) }
-        ensures later { input_faults self.old ≤ input_faults self.new }
-        ensures counted { 0 < Self.Input.faults input → Rose (input_faults self.old) (input_faults self.new) };
+        ensures told { deeds self.new ≡ deeds self.old ++ Shut (Self.Input.name input) (Self.Input.takes input) ∷ [] };
 
-    /// Leaves under the output's name what it holds, also where it answers Failed. Where a call of
-    /// it failed, the host counts a fault.
+    /// Leaves under the output's name what it holds, also where it answers Failed. A failed put is
+    /// a fault of this call too, whatever it answers.
     fn keep(&mut self, output: Self::Output) -> Result<(), Failed>
-        ensures inputs { input_faults self.new ≡ input_faults self.old }
         ensures files { files self.new ≡ kept_files (Self.Output.name output) (Self.Output.held output) (files self.old) }
         ensures said { said self.new ≡ said self.old }
         ensures names { SameNames (may_open self.old) (may_create self.old) (may_open self.new) (may_create self.new) }
-        ensures cause { HasCause (output_faults self.old) (output_faults self.new) result }
-        ensures counted { 0 < Self.Output.faults output → Rose (output_faults self.old) (output_faults self.new) };
+        ensures told { deeds self.new ≡ deeds self.old ++ kept_or_failed (Self.Output.name output) (Self.Output.puts output) result ∷ [] };
 
     /// Says the first bytes of the piece, at least one of a piece that is not empty.
     fn say(&mut self, piece: &[u8]) -> Result<usize, Failed>
         ensures bound { WritesAtMost result piece.now }
         ensures some { IfOk result (λ n. 0 < length piece.now → 0 < n) }
         ensures bytes { WriteAppends (said self.old) (said self.new) result piece.now }
-        ensures inputs { input_faults self.new ≡ input_faults self.old }
         ensures files { files self.new ≡ files self.old }
         ensures names { SameNames (may_open self.old) (may_create self.old) (may_open self.new) (may_create self.new) }
-        ensures cause { HasCause (output_faults self.old) (output_faults self.new) result };
+        ensures told { deeds self.new ≡ deeds self.old ++ Said (result_ok result) ∷ [] };
 }

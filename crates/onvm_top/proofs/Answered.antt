@@ -5,61 +5,62 @@ use Rattle.std.proofs.lemmas.List.Sums.{sum_by-append}
 use Rattle.onvm_base.specs.declared.frame.Frame.{Frame}
 use Rattle.onvm_base.specs.declared.status.Status.{Status}
 use Rattle.onvm_base.specs.declared.status.Status.TheVariants.{Done, Words, Plan, Capture, Read, Write, Memory}
-use Rattle.onvm_host.specs.Causes.{Rose}
+use Rattle.onvm_host.specs.Deeds.{Deed}
 use Rattle.onvm_host.specs.Files.{Entries, file_of}
 use Rattle.pcap_in.specs.Classic.{IsCapture}
 use Rattle.pcap_in.proofs.Faults.{no_fault, capture_first}
-use Rattle.onvm_top.specs.Answers.{FailsToRead, FailsToWrite, HasBadCapture, HasOtherChain, IsBadCapture, IsChain, IsGoodCapture, IsNoCommand, IsOtherChain, IsUnlessStopped}
+use Rattle.onvm_top.specs.Answers.{FailsToWrite, HasBadCapture, HasOtherChain, IsBadCapture, IsChain, IsGoodCapture, IsNoCommand, IsOtherChain, IsUnlessStopped}
 use Rattle.onvm_top.specs.Command.{Command, IsCommand}
 use Rattle.onvm_top.specs.Fault.{status_of}
 use Rattle.onvm_top.specs.Limits.{bytes_of, IsWithinLimits, PassesLimit}
 use Rattle.onvm_top.specs.Replay.{IsDone, IsReplayed}
-use Rattle.onvm_top.specs.Stops.{Counts, IsStopped}
+use Rattle.onvm_top.specs.Stops.{IsStopped}
+use Rattle.onvm_top.specs.Story.{CannotReadChain}
 use Rattle.onvm_top.specs.declared.fault.Fault.{Fault}
 
--- what a status tells
-abbrev pub IsAnswer : List (List ℕ) → Option Entries → Option Entries → Counts → Status → Type 0
-IsAnswer words told told_now counts Done = IsDone words told told_now
-IsAnswer words told told_now counts Words = IsNoCommand words × (told_now ≡ told)
-IsAnswer words told told_now counts Plan = HasOtherChain words told × (told_now ≡ told)
-IsAnswer words told told_now counts Capture = HasBadCapture words told × (told_now ≡ told)
-IsAnswer words told told_now counts Read = FailsToRead words counts.inputs_before counts.inputs_now × (told_now ≡ told)
-IsAnswer words told told_now counts Write = FailsToWrite words told told_now counts.outputs_before counts.outputs_now
-IsAnswer words told told_now counts Memory = ((command : Command) × IsCommand words command) × (told_now ≡ told)
+-- what a status tells of words and files
+abbrev pub IsAnswer : List (List ℕ) → Option Entries → Option Entries → Status → Type 0
+IsAnswer words told told_now Done = IsDone words told told_now
+IsAnswer words told told_now Words = IsNoCommand words × (told_now ≡ told)
+IsAnswer words told told_now Plan = HasOtherChain words told × (told_now ≡ told)
+IsAnswer words told told_now Capture = HasBadCapture words told × (told_now ≡ told)
+IsAnswer words told told_now Read = ((command : Command) × IsCommand words command) × (told_now ≡ told)
+IsAnswer words told told_now Write = FailsToWrite words told told_now
+IsAnswer words told told_now Memory = ((command : Command) × IsCommand words command) × (told_now ≡ told)
 
 -- what a fault that stops a run tells is what its status tells
-pub IsAnswer-stopped : (words : List (List ℕ)) (told told_now : Option Entries) (counts : Counts) (fault : Fault)
-    → IsStopped words told told_now counts fault → IsAnswer words told told_now counts (status_of fault)
-IsAnswer-stopped words told told_now counts fault (inl at) =
-    let P : Fault → Type 0 = λ f. IsAnswer words told told_now counts (status_of f) in
+pub IsAnswer-stopped : (words : List (List ℕ)) (told told_now : Option Entries) (deeds : List Deed) (fault : Fault)
+    → IsStopped words told told_now deeds fault → IsAnswer words told told_now (status_of fault)
+IsAnswer-stopped words told told_now deeds fault (inl at) =
+    let P : Fault → Type 0 = λ f. IsAnswer words told told_now (status_of f) in
     subst P (sym at.0) (at.1, at.2)
-IsAnswer-stopped words told told_now counts fault (inr (inl (command, is, inl plan, same))) =
-    let P : Fault → Type 0 = λ f. IsAnswer words told told_now counts (status_of f) in
-    subst P (sym plan.0) ((command, is, plan.1), same)
-IsAnswer-stopped words told told_now counts fault (inr (inl (command, is, inr (inl read), same))) =
-    let P : Fault → Type 0 = λ f. IsAnswer words told told_now counts (status_of f) in
-    subst P (sym read.0) ((command, is, read.1), same)
-IsAnswer-stopped words told told_now counts fault (inr (inl (command, is, inr (inr memory), same))) =
-    let P : Fault → Type 0 = λ f. IsAnswer words told told_now counts (status_of f) in
-    subst P (sym memory) ((command, is), same)
-IsAnswer-stopped words told told_now counts fault (inr (inr (inl (command, is, chain, inl broken, same)))) =
-    let P : Fault → Type 0 = λ f. IsAnswer words told told_now counts (status_of f) in
-    subst P (sym broken.1) ((command, is, λ files told_is. (chain files told_is, inl (broken.0, broken.2 files told_is))), same)
-IsAnswer-stopped words told told_now counts fault (inr (inr (inl (command, is, chain, inr (inl large), same)))) =
-    let P : Fault → Type 0 = λ f. IsAnswer words told told_now counts (status_of f) in
-    subst P (sym large.0) ((command, is, λ files told_is. (chain files told_is, inr (large.1 files told_is))), same)
-IsAnswer-stopped words told told_now counts fault (inr (inr (inl (command, is, chain, inr (inr (inl read)), same)))) =
-    let P : Fault → Type 0 = λ f. IsAnswer words told told_now counts (status_of f) in
-    subst P (sym read.0) ((command, is, read.1), same)
-IsAnswer-stopped words told told_now counts fault (inr (inr (inl (command, is, chain, inr (inr (inr memory)), same)))) =
-    let P : Fault → Type 0 = λ f. IsAnswer words told told_now counts (status_of f) in
-    subst P (sym memory) ((command, is), same)
-IsAnswer-stopped words told told_now counts fault (inr (inr (inr (command, is, chain, frames, good, inl write)))) =
-    let P : Fault → Type 0 = λ f. IsAnswer words told told_now counts (status_of f) in
-    subst P (sym write.0) (command, is, write.1, frames, λ files told_is. (chain files told_is, good files told_is, write.2 files told_is))
-IsAnswer-stopped words told told_now counts fault (inr (inr (inr (command, is, chain, frames, good, inr memory)))) =
-    let P : Fault → Type 0 = λ f. IsAnswer words told told_now counts (status_of f) in
-    subst P (sym memory.0) ((command, is), memory.1)
+IsAnswer-stopped words told told_now deeds fault (inr (inl (command, is, same, inl plan))) =
+    let P : Fault → Type 0 = λ f. IsAnswer words told told_now (status_of f) in
+    subst P (sym plan.0) ((command, is, plan.2), same)
+IsAnswer-stopped words told told_now deeds fault (inr (inl (command, is, same, inr (inl read)))) =
+    let P : Fault → Type 0 = λ f. IsAnswer words told told_now (status_of f) in
+    subst P (sym read.0) ((command, is), same)
+IsAnswer-stopped words told told_now deeds fault (inr (inl (command, is, same, inr (inr memory)))) =
+    let P : Fault → Type 0 = λ f. IsAnswer words told told_now (status_of f) in
+    subst P (sym memory.0) ((command, is), same)
+IsAnswer-stopped words told told_now deeds fault (inr (inr (inl (command, is, same, chain, (first, rest, split, read, inl broken))))) =
+    let P : Fault → Type 0 = λ f. IsAnswer words told told_now (status_of f) in
+    subst P (sym broken.1) ((command, is, λ files told_is. (chain files told_is, inl (broken.0, broken.3 files told_is))), same)
+IsAnswer-stopped words told told_now deeds fault (inr (inr (inl (command, is, same, chain, (first, rest, split, read, inr (inl large)))))) =
+    let P : Fault → Type 0 = λ f. IsAnswer words told told_now (status_of f) in
+    subst P (sym large.0) ((command, is, λ files told_is. (chain files told_is, inr (large.2 files told_is))), same)
+IsAnswer-stopped words told told_now deeds fault (inr (inr (inl (command, is, same, chain, (first, rest, split, read, inr (inr (inl failed))))))) =
+    let P : Fault → Type 0 = λ f. IsAnswer words told told_now (status_of f) in
+    subst P (sym failed.0) ((command, is), same)
+IsAnswer-stopped words told told_now deeds fault (inr (inr (inl (command, is, same, chain, (first, rest, split, read, inr (inr (inr memory))))))) =
+    let P : Fault → Type 0 = λ f. IsAnswer words told told_now (status_of f) in
+    subst P (sym memory.0) ((command, is), same)
+IsAnswer-stopped words told told_now deeds fault (inr (inr (inr (command, is, chain, frames, within, good, (first, rest, split, read, (next, last, cut, taken, inl write)))))) =
+    let P : Fault → Type 0 = λ f. IsAnswer words told told_now (status_of f) in
+    subst P (sym write.0) (command, is, frames, λ files told_is. (chain files told_is, good files told_is, write.2 files told_is))
+IsAnswer-stopped words told told_now deeds fault (inr (inr (inr (command, is, chain, frames, within, good, (first, rest, split, read, (next, last, cut, taken, inr memory)))))) =
+    let P : Fault → Type 0 = λ f. IsAnswer words told told_now (status_of f) in
+    subst P (sym memory.0) ((command, is), memory.2)
 
 -- words are one command
 same_chain : (words : List (List ℕ)) (a b : Command) → IsCommand words a → IsCommand words b → a.chain ≡ b.chain
@@ -115,72 +116,89 @@ other_capture words a b files frames is other good bad =
     good_or_bad b.capture files frames (subst P (same_capture words a b is other) good) bad
 
 -- words that are no command are told
-pub no_command : (words : List (List ℕ)) (told told_now : Option Entries) (counts : Counts) (answer : Status)
-    → IsAnswer words told told_now counts answer → IsNoCommand words → answer ≡ Words
-no_command words told told_now counts Done tells none = absurd (none tells.0 tells.1)
-no_command words told told_now counts Words tells none = refl
-no_command words told told_now counts Plan tells none = absurd (none tells.0.0 tells.0.1)
-no_command words told told_now counts Capture tells none = absurd (none tells.0.0 tells.0.1)
-no_command words told told_now counts Read tells none = absurd (none tells.0.0 tells.0.1)
-no_command words told told_now counts Write tells none = absurd (none tells.0 tells.1)
-no_command words told told_now counts Memory tells none = absurd (none tells.0.0 tells.0.1)
+pub no_command : (words : List (List ℕ)) (told told_now : Option Entries) (answer : Status)
+    → IsAnswer words told told_now answer → IsNoCommand words → answer ≡ Words
+no_command words told told_now Done tells none = absurd (none tells.0 tells.1)
+no_command words told told_now Words tells none = refl
+no_command words told told_now Plan tells none = absurd (none tells.0.0 tells.0.1)
+no_command words told told_now Capture tells none = absurd (none tells.0.0 tells.0.1)
+no_command words told told_now Read tells none = absurd (none tells.0.0 tells.0.1)
+no_command words told told_now Write tells none = absurd (none tells.0 tells.1)
+no_command words told told_now Memory tells none = absurd (none tells.0.0 tells.0.1)
 
 -- another chain file is told
-pub other_chain : (words : List (List ℕ)) (told told_now : Option Entries) (counts : Counts) (answer : Status)
-    → IsAnswer words told told_now counts answer → (command : Command) → IsCommand words command
+pub other_chain : (words : List (List ℕ)) (told told_now : Option Entries) (answer : Status)
+    → IsAnswer words told told_now answer → (command : Command) → IsCommand words command
     → (files : Entries) → told ≡ Some files → IsOtherChain command.chain files → IsUnlessStopped Plan answer
-other_chain words told told_now counts Done tells command is files told_is other =
+other_chain words told told_now Done tells command is files told_is other =
     absurd (chain_or_other words tells.0 command files tells.1 is (tells.2 files told_is).chain other)
-other_chain words told told_now counts Words tells command is files told_is other = absurd (tells.0 command is)
-other_chain words told told_now counts Plan tells command is files told_is other = inl refl
-other_chain words told told_now counts Capture tells command is files told_is other =
+other_chain words told told_now Words tells command is files told_is other = absurd (tells.0 command is)
+other_chain words told told_now Plan tells command is files told_is other = inl refl
+other_chain words told told_now Capture tells command is files told_is other =
     absurd (chain_or_other words tells.0.0 command files tells.0.1 is (tells.0.2 files told_is).0 other)
-other_chain words told told_now counts Read tells command is files told_is other = inr (inl refl)
-other_chain words told told_now counts Write tells command is files told_is other =
-    absurd (chain_or_other words tells.0 command files tells.1 is (tells.4 files told_is).0 other)
-other_chain words told told_now counts Memory tells command is files told_is other = inr (inr refl)
+other_chain words told told_now Read tells command is files told_is other = inr (inl refl)
+other_chain words told told_now Write tells command is files told_is other =
+    absurd (chain_or_other words tells.0 command files tells.1 is (tells.3 files told_is).0 other)
+other_chain words told told_now Memory tells command is files told_is other = inr (inr refl)
 
 -- a bad capture is told
-pub bad_capture : (words : List (List ℕ)) (told told_now : Option Entries) (counts : Counts) (answer : Status)
-    → IsAnswer words told told_now counts answer → (command : Command) → IsCommand words command
+pub bad_capture : (words : List (List ℕ)) (told told_now : Option Entries) (answer : Status)
+    → IsAnswer words told told_now answer → (command : Command) → IsCommand words command
     → (files : Entries) → told ≡ Some files → IsChain command.chain files → IsBadCapture command.capture files
     → IsUnlessStopped Capture answer
-bad_capture words told told_now counts Done tells command is files told_is chain bad =
+bad_capture words told told_now Done tells command is files told_is chain bad =
     let done = tells.2 files told_is in
     absurd (other_capture words tells.0 command files done.frames tells.1 is (good_of_done tells.0 files told_now done) bad)
-bad_capture words told told_now counts Words tells command is files told_is chain bad = absurd (tells.0 command is)
-bad_capture words told told_now counts Plan tells command is files told_is chain bad =
+bad_capture words told told_now Words tells command is files told_is chain bad = absurd (tells.0 command is)
+bad_capture words told told_now Plan tells command is files told_is chain bad =
     absurd (chain_or_other words command tells.0.0 files is tells.0.1 chain (tells.0.2 files told_is))
-bad_capture words told told_now counts Capture tells command is files told_is chain bad = inl refl
-bad_capture words told told_now counts Read tells command is files told_is chain bad = inr (inl refl)
-bad_capture words told told_now counts Write tells command is files told_is chain bad =
-    absurd (other_capture words tells.0 command files tells.3 tells.1 is (tells.4 files told_is).1 bad)
-bad_capture words told told_now counts Memory tells command is files told_is chain bad = inr (inr refl)
+bad_capture words told told_now Capture tells command is files told_is chain bad = inl refl
+bad_capture words told told_now Read tells command is files told_is chain bad = inr (inl refl)
+bad_capture words told told_now Write tells command is files told_is chain bad =
+    absurd (other_capture words tells.0 command files tells.2 tells.1 is (tells.3 files told_is).1 bad)
+bad_capture words told told_now Memory tells command is files told_is chain bad = inr (inr refl)
 
 -- where nothing is wrong and nothing failed, the run was done
-pub complete : (words : List (List ℕ)) (told told_now : Option Entries) (counts : Counts) (answer : Status)
-    → IsAnswer words told told_now counts answer → (command : Command) → IsCommand words command
+pub complete : (words : List (List ℕ)) (told told_now : Option Entries) (answer : Status)
+    → IsAnswer words told told_now answer → (command : Command) → IsCommand words command
     → (files : Entries) → told ≡ Some files → IsChain command.chain files
-    → (frames : List Frame) → IsGoodCapture command.capture files frames → ¬ (Rose counts.inputs_before counts.inputs_now)
-    → ¬ (Rose counts.outputs_before counts.outputs_now)
+    → (frames : List Frame) → IsGoodCapture command.capture files frames → answer ≢ Read → answer ≢ Write
     → (answer ≡ Done) ⊎ (answer ≡ Memory)
-complete words told told_now counts Done tells command is files told_is chain frames good in_calm out_calm = inl refl
-complete words told told_now counts Words tells command is files told_is chain frames good in_calm out_calm = absurd (tells.0 command is)
-complete words told told_now counts Plan tells command is files told_is chain frames good in_calm out_calm =
+complete words told told_now Done tells command is files told_is chain frames good unread unwritten = inl refl
+complete words told told_now Words tells command is files told_is chain frames good unread unwritten = absurd (tells.0 command is)
+complete words told told_now Plan tells command is files told_is chain frames good unread unwritten =
     absurd (chain_or_other words command tells.0.0 files is tells.0.1 chain (tells.0.2 files told_is))
-complete words told told_now counts Capture tells command is files told_is chain frames good in_calm out_calm =
+complete words told told_now Capture tells command is files told_is chain frames good unread unwritten =
     absurd (other_capture words command tells.0.0 files frames is tells.0.1 good (tells.0.2 files told_is).1)
-complete words told told_now counts Read tells command is files told_is chain frames good in_calm out_calm = absurd (in_calm tells.0.2)
-complete words told told_now counts Write tells command is files told_is chain frames good in_calm out_calm = absurd (out_calm tells.2)
-complete words told told_now counts Memory tells command is files told_is chain frames good in_calm out_calm = inr refl
+complete words told told_now Read tells command is files told_is chain frames good unread unwritten = absurd (unread refl)
+complete words told told_now Write tells command is files told_is chain frames good unread unwritten = absurd (unwritten refl)
+complete words told told_now Memory tells command is files told_is chain frames good unread unwritten = inr refl
+
+-- where the chain file is another and Read is told, the chain file could not be read
+pub other_chain_Read : (words : List (List ℕ)) (told told_now : Option Entries) (deeds : List Deed) (fault : Fault)
+    → IsStopped words told told_now deeds fault → status_of fault ≡ Read → (command : Command) → IsCommand words command
+    → (files : Entries) → told ≡ Some files → IsOtherChain command.chain files → CannotReadChain command.chain deeds
+other_chain_Read words told told_now deeds fault (inl at) read command is files told_is other =
+    let clash : Words ≡ Read = sym (ap status_of at.0) ∙ read in cc
+other_chain_Read words told told_now deeds fault (inr (inl (first, first_is, same, inl plan))) read command is files told_is other =
+    let clash : Plan ≡ Read = sym (ap status_of plan.0) ∙ read in cc
+other_chain_Read words told told_now deeds fault (inr (inl (first, first_is, same, inr (inl failed)))) read command is files told_is other =
+    let P : List ℕ → Type 0 = λ n. CannotReadChain n deeds in
+    subst P (same_chain words first command first_is is) failed.1
+other_chain_Read words told told_now deeds fault (inr (inl (first, first_is, same, inr (inr memory)))) read command is files told_is other =
+    let clash : Memory ≡ Read = sym (ap status_of memory.0) ∙ read in cc
+other_chain_Read words told told_now deeds fault (inr (inr (inl (first, first_is, same, chain, calls)))) read command is files told_is other =
+    absurd (chain_or_other words first command files first_is is (chain files told_is) other)
+other_chain_Read words told told_now deeds fault (inr (inr (inr (first, first_is, chain, frames, within, good, calls)))) read command is files told_is other =
+    absurd (chain_or_other words first command files first_is is (chain files told_is) other)
 
 -- but where it was done or writing failed, no file changed
-pub none_made : (words : List (List ℕ)) (told told_now : Option Entries) (counts : Counts) (answer : Status)
-    → IsAnswer words told told_now counts answer → answer ≢ Done → answer ≢ Write → told_now ≡ told
-none_made words told told_now counts Done tells undone unwritten = absurd (undone refl)
-none_made words told told_now counts Words tells undone unwritten = tells.1
-none_made words told told_now counts Plan tells undone unwritten = tells.1
-none_made words told told_now counts Capture tells undone unwritten = tells.1
-none_made words told told_now counts Read tells undone unwritten = tells.1
-none_made words told told_now counts Write tells undone unwritten = absurd (unwritten refl)
-none_made words told told_now counts Memory tells undone unwritten = tells.1
+pub none_made : (words : List (List ℕ)) (told told_now : Option Entries) (answer : Status)
+    → IsAnswer words told told_now answer → answer ≢ Done → answer ≢ Write → told_now ≡ told
+none_made words told told_now Done tells undone unwritten = absurd (undone refl)
+none_made words told told_now Words tells undone unwritten = tells.1
+none_made words told told_now Plan tells undone unwritten = tells.1
+none_made words told told_now Capture tells undone unwritten = tells.1
+none_made words told told_now Read tells undone unwritten = tells.1
+none_made words told told_now Write tells undone unwritten = absurd (unwritten refl)
+none_made words told told_now Memory tells undone unwritten = tells.1

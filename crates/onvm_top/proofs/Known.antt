@@ -3,8 +3,7 @@ use Rattle.std.proofs.Common.{◌≡◌, ◌∙◌, ap, List, [], ◌++◌, Opti
 use Rattle.std.proofs.lemmas.List.{append-nil, length-append, take-append-le, length-take-le}
 use Rattle.std.proofs.lemmas.Bool.{cases_lt}
 use Rattle.std.proofs.Math.Seq.{take-append-add}
-use Rattle.std.specs.Io.KnownBytes.{Appends, Consumes, IsAtEnd}
-use Rattle.onvm_top.specs.Known.{AppendsFront}
+use Rattle.std.specs.Io.KnownBytes.{Appends, Consumes, IsAtEnd, Keeps}
 
 -- one piece after another is both together
 pub Appends-append : (a b c : Option (List ℕ)) (x y : List ℕ) → Appends a b x → Appends b c y → Appends a c (x ++ y)
@@ -12,6 +11,18 @@ Appends-append None b c x y p q = tt
 Appends-append (Some u) None c x y p q = absurd p
 Appends-append (Some u) (Some v) None x y p q = absurd q
 Appends-append (Some u) (Some v) (Some w) x y p q = q ∙ ap (λ t. t ++ y) p ∙ append_assoc u x y
+
+-- nothing is appended where nothing changes
+pub Appends-nothing : (known : Option (List ℕ)) → Appends known known []
+Appends-nothing None = tt
+Appends-nothing (Some u) = sym (append-nil u)
+
+-- what was appended stays
+pub Appends-keeps : (a b c : Option (List ℕ)) (x : List ℕ) → Appends a b x → Keeps b c → Appends a c x
+Appends-keeps None b c x p q = tt
+Appends-keeps (Some u) None c x p q = absurd p
+Appends-keeps (Some u) (Some v) None x p q = absurd q
+Appends-keeps (Some u) (Some v) (Some w) x p q = q ∙ p
 
 -- what was empty at first holds what was appended
 pub Appends-to_empty : (a b : Option (List ℕ)) (x : List ℕ) → a ≡ Some [] → Appends a b x → b ≡ Some x
@@ -97,17 +108,3 @@ pub IsAtEnd-left : (b : Option (List ℕ)) (more : List ℕ) → b ≡ Some more
 IsAtEnd-left b more e p =
     let P : Option (List ℕ) → Type 0 = IsAtEnd in
     subst P e p
-
--- all of it is a front
-pub front-whole : (a b : Option (List ℕ)) (whole : List ℕ) → Appends a b whole → AppendsFront a b whole
-front-whole a b whole all = (whole, [], sym (append-nil whole), all)
-
--- a front of the first part is a front of both
-pub front-first : (a b : Option (List ℕ)) (x y : List ℕ) → AppendsFront a b x → AppendsFront a b (x ++ y)
-front-first a b x y (front, rest, is, appended) =
-    (front, rest ++ y, ap (λ t. t ++ y) is ∙ append_assoc front rest y, appended)
-
--- the first part and a front of the second are a front of both
-pub front-second : (a b c : Option (List ℕ)) (x y : List ℕ) → Appends a b x → AppendsFront b c y → AppendsFront a c (x ++ y)
-front-second a b c x y all (front, rest, is, appended) =
-    (x ++ front, rest, ap (λ t. x ++ t) is ∙ sym (append_assoc x front rest), Appends-append a b c x front all appended)

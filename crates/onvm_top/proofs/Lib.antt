@@ -2,6 +2,9 @@ pub mod Answered
 pub mod Captured
 pub mod Causes
 pub mod Emitting
+pub mod Fed
+pub mod Kept
 pub mod Known
+pub mod Moved
 pub mod Sent
-pub mod Stopped
+pub mod Story

@@ -1,10 +1,8 @@
--- What each status tells of a run: of the words, of the files that were there and are there now, and
--- of a count of faults before and now, which is the host's for inputs or the one for outputs.
+-- What each status tells of a run: of the words, and of the files that were there and are there now.
 use Rattle.std.specs.Prelude.{◌≡◌, ◌≢◌, ◌⊎◌, ℕ, List, ◌++◌, Option, Some}
 use Rattle.onvm_base.specs.declared.frame.Frame.{Frame}
 use Rattle.onvm_base.specs.declared.status.Status.{Status}
 use Rattle.onvm_base.specs.declared.status.Status.TheVariants as status
-use Rattle.onvm_host.specs.Causes.{Rose}
 use Rattle.onvm_host.specs.Files.{Entries, file_of}
 use Rattle.pcap_in.specs.Classic.{IsCapture}
 use Rattle.pcap_in.specs.Emitted.{emit}
@@ -67,13 +65,9 @@ abbrev pub HasBadCapture : List (List ℕ) → Option Entries → Type 0
 HasBadCapture words told = (command : Command) × IsCommand words command
     × OnTold told (λ files. IsChain command.chain files × IsBadCapture command.capture files)
 
--- status 5: the words are a command, and an input could not be opened, or was shut after a failed take
-abbrev pub FailsToRead : List (List ℕ) → ℕ → ℕ → Type 0
-FailsToRead words before now = (command : Command) × IsCommand words command × Rose before now
-
--- status 6: chain file and capture are good, and an output could not be created or kept
-abbrev pub FailsToWrite : List (List ℕ) → Option Entries → Option Entries → ℕ → ℕ → Type 0
-FailsToWrite words told told_now before now = (command : Command) × IsCommand words command × Rose before now
+-- status 6: chain file and capture are good, and the output may have a front of the capture text
+abbrev pub FailsToWrite : List (List ℕ) → Option Entries → Option Entries → Type 0
+FailsToWrite words told told_now = (command : Command) × IsCommand words command
     × (frames : List Frame) × OnTold told (λ files. IsChain command.chain files × IsGoodCapture command.capture files frames
     × HoldsFront command.out frames files told_now)
 

@@ -1,6 +1,7 @@
 -- How a capture's bytes come from a source to a reader.
-use Rattle.std.specs.Prelude.{◌≡◌, ℕ, ◌<◌, true, false, Option, List, ◌++◌, length}
+use Rattle.std.specs.Prelude.{◌≡◌, ℕ, ◌<◌, true, false, Option, Some, List, [], ◌∷◌, ◌++◌, length}
 use Rattle.std.specs.Io.KnownBytes.{Consumes, IsAtEnd}
+use Rattle.onvm_host.specs.Deeds.{Amounts}
 use Rattle.pcap_in.specs.Reading.{Reading}
 
 -- more bytes may come, and what is kept is less than a header and a record
@@ -8,10 +9,11 @@ pub record EndsEarly (reading : Reading) : Type 0 where
   pub unfinished : reading.finished ≡ false
   pub short : length reading.rest < 262184
 
--- the reader was fed the next bytes of a source: some, or at the source's end none
-pub record Feeds (left left' : Option (List ℕ)) (old new : Reading) : Type 0 where
+-- the reader was fed what one take gave: the next bytes of a source, or none at the source's end
+pub record Feeds (left left' : Option (List ℕ)) (takes takes' : Amounts) (old new : Reading) : Type 0 where
   pub bytes : List ℕ
   pub consumed : Consumes left left' bytes
+  pub taken : takes' ≡ takes ++ Some (length bytes) ∷ []
   pub spelling : new.spelling ≡ old.spelling
   pub place : new.place ≡ old.place
   pub rest : new.rest ≡ old.rest ++ bytes

@@ -4,5 +4,7 @@ pub mod Fault
 pub mod Fed
 pub mod Known
 pub mod Limits
+pub mod Moved
 pub mod Replay
 pub mod Stops
+pub mod Story

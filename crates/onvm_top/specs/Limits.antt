@@ -1,7 +1,7 @@
 -- What a port takes of a capture.
-use Rattle.std.specs.Prelude.{◌≡◌, ℕ, ◌≤◌, List, ◌++◌, length, sum_by}
+use Rattle.std.specs.Prelude.{◌≡◌, ℕ, ◌+◌, ◌*◌, ◌≤◌, List, ◌++◌, length, sum_by}
 use Rattle.onvm_base.specs.declared.frame.Frame.{Frame}
-use Rattle.onvm_base.specs.declared.limits.TheConstants.{MAX_PORT_FRAMES, MAX_PORT_BYTES}
+use Rattle.onvm_base.specs.declared.limits.TheConstants.{MAX_FRAME_BYTES, MAX_PORT_FRAMES, MAX_PORT_BYTES}
 use Rattle.pcap_in.specs.Classic.{IsCapture}
 
 -- the bytes of these frames together
@@ -15,3 +15,7 @@ pub record IsWithinLimits (frames : List Frame) : Type 0 where
 -- the text begins with a capture of more than a port takes
 abbrev pub PassesLimit : List ℕ → Type 0
 PassesLimit text = (used rest : List ℕ) × (frames : List Frame) × (text ≡ used ++ rest) × IsCapture used frames × ¬ (IsWithinLimits frames)
+
+-- the bytes of the largest capture that a port takes, and of a header and a record more
+abbrev pub capture_limit : ℕ
+capture_limit = (24 + 16 * MAX_PORT_FRAMES + MAX_PORT_BYTES) + (24 + 16 + MAX_FRAME_BYTES)

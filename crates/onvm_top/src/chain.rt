@@ -1,7 +1,7 @@
 //! The chain file that is read today.
-ghost use Rattle.std.specs.Prelude.{◌≡◌, ◌<◌, ◌≤◌, ℕ, List, IfOk, IsTrue, ◌↔◌, Some, length, take};
+ghost use Rattle.std.specs.Prelude.{◌≡◌, ◌<◌, ◌≤◌, ◌+◌, ℕ, List, IfOk, OnErr, OnOk, IsTrue, ◌↔◌, None, Some, length, take};
 ghost use Rattle.std.specs.Io.KnownBytes.{Consumes, IsAtEnd};
-ghost use Rattle.onvm_host.specs.Causes.{HasCause};
+ghost use Rattle.onvm_top.specs.Moved.{Reads};
 
 use onvm_base::Failed;
 use onvm_host::Source;
@@ -18,7 +18,11 @@ const ROOM: usize = 156;
 pub fn is_forwarding_chain<S: Source>(source: &mut S) -> Result<bool, Failed>
     ensures exact { IfOk result (λ same. (bytes : List ℕ) → S.left source.old ≡ Some bytes
         → (IsTrue same ↔ (bytes ≡ FORWARDING_CHAIN))) }
-    ensures cause { HasCause (S.faults source.old) (S.faults source.new) result }
+    ensures ok { OnOk result ((last : ℕ) × Reads (length FORWARDING_CHAIN + 1) (Some last)
+        (S.takes source.old) (S.takes source.new)) }
+    ensures err { OnErr result (Reads (length FORWARDING_CHAIN + 1) None
+        (S.takes source.old) (S.takes source.new)) }
+    ensures named { S.name source.new ≡ S.name source.old }
 {
     let mut room = [0; ROOM];
     let count = fill(source, &mut room)?;
@@ -27,11 +31,17 @@ pub fn is_forwarding_chain<S: Source>(source: &mut S) -> Result<bool, Failed>
 
 // Fills the room with the next bytes, and says how many came: fewer than it holds only at the end.
 fn fill<S: Source>(source: &mut S, room: &mut [u8]) -> Result<usize, Failed>
+    requires room { 0 < length room.old }
     ensures within { IfOk result (λ count. count ≤ length room.new) }
     ensures taken { IfOk result (λ count.
         Consumes (S.left source.old) (S.left source.new) (take count room.new)) }
     ensures short { IfOk result (λ count. count < length room.new → IsAtEnd (S.left source.new)) }
-    ensures cause { HasCause (S.faults source.old) (S.faults source.new) result }
+    ensures ok { OnOk result ((last : ℕ) × Reads (length room.new) (Some last)
+        (S.takes source.old) (S.takes source.new)) }
+    ensures err { OnErr result (Reads (length room.new) None
+        (S.takes source.old) (S.takes source.new)) }
+    ensures named { S.name source.new ≡ S.name source.old }
+    ensures same { length room.new ≡ length room.old }
 {
     let mut len = 0;
     while len < room.len() {

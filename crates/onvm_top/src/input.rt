@@ -1,12 +1,12 @@
 //! Captures read to their end.
-ghost use Rattle.std.specs.Prelude.{◌≡◌, ◌≢◌, ◌⊎◌, ◌≤◌, ◌<◌, ◌+◌, ◌^◌, ℕ, List, [], ◌++◌, Some, IfOk, IfErr, OnOk, Ok, Err, length, true, false};
-ghost use Rattle.onvm_host.specs.Causes.{Rose};
+ghost use Rattle.std.specs.Prelude.{◌≡◌, ◌≢◌, ◌⊎◌, ◌≤◌, ◌<◌, ◌+◌, ◌^◌, ℕ, List, [], ◌∷◌, ◌++◌, None, Some, IfOk, IfErr, OnOk, Ok, Err, length, true, false};
 ghost use Rattle.onvm_base.specs.declared.frame.Frame.{Frame};
 ghost use Rattle.pcap_in.specs.Calls.{HasRead};
 ghost use Rattle.pcap_in.specs.Classic.{IsCapture};
 ghost use Rattle.pcap_in.specs.Faulty.{IsCaptureUpTo};
 ghost use Rattle.pcap_in.specs.declared.pull.PcapFault.{PcapFault};
-ghost use Rattle.onvm_top.specs.Limits.{IsWithinLimits, PassesLimit};
+ghost use Rattle.onvm_top.specs.Limits.{capture_limit, IsWithinLimits, PassesLimit};
+ghost use Rattle.onvm_top.specs.Moved.{Reads};
 ghost use Rattle.onvm_top.specs.Fed.{EndsEarly, Feeds};
 
 use crate::received::Received;
@@ -37,8 +37,11 @@ pub fn read_frames<S: Source>(alloc: Global, source: &mut S) -> Result<Frames, C
         → (frames : List Frame) × IsCaptureUpTo text frames fault × IsWithinLimits frames }
     ensures too_many { result ≡ Err CaptureFault.TooMany
         → (text : List ℕ) → S.left source.old ≡ Some text → PassesLimit text }
-    ensures read { result ≡ Err CaptureFault.Read → Rose (S.faults source.old) (S.faults source.new) }
-    ensures later { S.faults source.old ≤ S.faults source.new }
+    ensures read { result ≡ Err CaptureFault.Read
+        → Reads capture_limit None (S.takes source.old) (S.takes source.new) }
+    ensures ended { result ≢ Err CaptureFault.Read
+        → (last : ℕ) × Reads capture_limit (Some last) (S.takes source.old) (S.takes source.new) }
+    ensures named { S.name source.new ≡ S.name source.old }
 {
     let mut reader = Reader::make(alloc);
     let mut received = Received::make(alloc);
@@ -60,11 +63,14 @@ fn feed_piece<S: Source>(
     requires room { 0 < length piece.old }
     requires open { reader.old.finished ≡ false }
     requires fits { reader.old.place + length reader.old.rest + length piece.old < 2 ^ 64 }
-    ensures ok { OnOk result (Feeds (S.left source.old) (S.left source.new) reader.old reader.new) }
-    ensures read { result ≡ Err CaptureFault.Read → Rose (S.faults source.old) (S.faults source.new) }
+    ensures ok { OnOk result (Feeds (S.left source.old) (S.left source.new)
+        (S.takes source.old) (S.takes source.new) reader.old reader.new) }
+    ensures read { result ≡ Err CaptureFault.Read → S.takes source.new ≡ S.takes source.old ++ None ∷ [] }
+    ensures memory { result ≡ Err CaptureFault.Memory
+        → (count : ℕ) × (S.takes source.new ≡ S.takes source.old ++ Some count ∷ []) }
     ensures only { IfErr result (λ fault.
         (fault ≡ CaptureFault.Read) ⊎ (fault ≡ CaptureFault.Memory)) }
-    ensures later { S.faults source.old ≤ S.faults source.new }
+    ensures named { S.name source.new ≡ S.name source.old }
 {
     let Ok(count) = source.take(piece) else {
         return Err(CaptureFault::Read);

@@ -1,16 +1,19 @@
 //! A whole run.
-ghost use Rattle.std.specs.Prelude.{◌≡◌, ◌≢◌, ◌≤◌, ◌⊎◌, ℕ, List, map, string_bytes, Some, OnOk, IfOk, IfErr};
+ghost use Rattle.std.specs.Prelude.{◌≡◌, ◌≢◌, ◌⊎◌, ◌<◌, ◌++◌, ℕ, List, map, string_bytes, Some, OnOk, IfOk, IfErr};
 ghost use Rattle.onvm_base.specs.declared.frame.Frame.{Frame};
-ghost use Rattle.onvm_host.specs.Causes.{Rose, SameNames};
+ghost use Rattle.onvm_host.specs.Deeds.{Deed, faults_of};
 ghost use Rattle.onvm_host.specs.Files.{Entries};
+ghost use Rattle.onvm_host.specs.Names.{SameNames};
 ghost use Rattle.pcap_in.specs.Emitted.{emit};
-ghost use Rattle.onvm_top.specs.Answers.{FailsToRead, FailsToWrite, HasBadCapture, HasOtherChain, IsBadCapture, IsChain, IsGoodCapture, IsNoCommand, IsOtherChain, IsUnlessStopped, OnCommand};
+ghost use Rattle.onvm_top.specs.Answers.{FailsToWrite, HasBadCapture, HasOtherChain, IsBadCapture, IsChain, IsGoodCapture, IsNoCommand, IsOtherChain, IsUnlessStopped, OnCommand};
 ghost use Rattle.onvm_top.specs.Command.{MayReplay};
 ghost use Rattle.onvm_top.specs.Fault.{line_of, status_of};
-ghost use Rattle.onvm_top.specs.Known.{OnTold, SaysOnce};
+ghost use Rattle.onvm_top.specs.Known.{OnTold};
 ghost use Rattle.onvm_top.specs.Limits.{IsWithinLimits};
+ghost use Rattle.onvm_top.specs.Moved.{SaysAll, SaysPart};
 ghost use Rattle.onvm_top.specs.Replay.{IsDone, OnlyChanges};
 ghost use Rattle.onvm_top.specs.Stops.{IsStopped, StopsAtCapture, StopsAtChain, StopsAtOutput};
+ghost use Rattle.onvm_top.specs.Story.{Adds, AreSays, CannotReadChain, IsStory, IsStoryOf, ReadsCapture, ReadsChain, Then, WritesFrames};
 
 use crate::chain::{FORWARDING_CHAIN, is_forwarding_chain};
 use crate::command::command_of;
@@ -36,7 +39,11 @@ pub fn run<R: AllocGlobal, H: Host, C: Clock, G: Gate>(
     requires names { MayReplay (H.may_open host.old) (H.may_create host.old)
         (map string_bytes words.now) }
 
-    // What each status tells.
+    // The calls of the host, in their order.
+    ensures story { Adds (H.deeds host.old) (H.deeds host.new)
+        (IsStory (map string_bytes words.now) result) }
+
+    // What each status tells of words and files.
     ensures done { result ≡ Status.Done
         → IsDone (map string_bytes words.now) (H.files host.old) (H.files host.new) }
     ensures words { result ≡ Status.Words → IsNoCommand (map string_bytes words.now) }
@@ -44,42 +51,31 @@ pub fn run<R: AllocGlobal, H: Host, C: Clock, G: Gate>(
         → HasOtherChain (map string_bytes words.now) (H.files host.old) }
     ensures capture { result ≡ Status.Capture
         → HasBadCapture (map string_bytes words.now) (H.files host.old) }
-    ensures read { result ≡ Status.Read
-        → FailsToRead (map string_bytes words.now)
-        (H.input_faults host.old) (H.input_faults host.new) }
-    ensures write { result ≡ Status.Write → FailsToWrite (map string_bytes words.now)
-        (H.files host.old) (H.files host.new)
-        (H.output_faults host.old) (H.output_faults host.new) }
+    ensures write { result ≡ Status.Write
+        → FailsToWrite (map string_bytes words.now) (H.files host.old) (H.files host.new) }
 
     // The other way round.
     ensures no_command { IsNoCommand (map string_bytes words.now) → result ≡ Status.Words }
     ensures other_chain { OnCommand (map string_bytes words.now) (H.files host.old) (λ command files.
-        IsOtherChain command.chain files → IsUnlessStopped Status.Plan result) }
+        IsOtherChain command.chain files → IsUnlessStopped Status.Plan result
+        × (result ≡ Status.Read → Adds (H.deeds host.old) (H.deeds host.new)
+        (Then (CannotReadChain command.chain) AreSays))) }
     ensures bad_capture { OnCommand (map string_bytes words.now) (H.files host.old) (λ command files.
         IsChain command.chain files → IsBadCapture command.capture files
         → IsUnlessStopped Status.Capture result) }
     ensures complete { OnCommand (map string_bytes words.now) (H.files host.old) (λ command files.
         IsChain command.chain files → (frames : List Frame) → IsGoodCapture command.capture files frames
-        → ¬ (Rose (H.input_faults host.old) (H.input_faults host.new))
-        → ¬ (Rose (H.output_faults host.old) (H.output_faults host.new))
+        → ¬ (faults_of (H.deeds host.old) < faults_of (H.deeds host.new))
         → (result ≡ Status.Done) ⊎ (result ≡ Status.Memory)) }
 
-    // Nothing is left behind, and what stopped the run is said once.
+    // Nothing is left behind, and what stopped the run is said once, behind all other calls.
     ensures none_made { result ≢ Status.Done → result ≢ Status.Write
         → H.files host.new ≡ H.files host.old }
     ensures quiet { result ≡ Status.Done → H.said host.new ≡ H.said host.old }
-    ensures inputs_later { H.input_faults host.old ≤ H.input_faults host.new }
-    ensures outputs_later { H.output_faults host.old ≤ H.output_faults host.new }
-    ensures line { result ≢ Status.Done → (fault : Fault) × (count : ℕ) × (status_of fault ≡ result)
-        × (H.output_faults host.old ≤ count)
-        × IsStopped (map string_bytes words.now) (H.files host.old) (H.files host.new)
-        (record {
-          inputs_before = H.input_faults host.old;
-          inputs_now = H.input_faults host.new;
-          outputs_before = H.output_faults host.old;
-          outputs_now = count;
-        }) fault
-        × SaysOnce (H.said host.old) (H.said host.new) count (H.output_faults host.new) (line_of fault) }
+    ensures line { result ≢ Status.Done → (fault : Fault) × (deeds : List Deed) × (status_of fault ≡ result)
+        × IsStopped (map string_bytes words.now) (H.files host.old) (H.files host.new) deeds fault
+        × (SaysAll (H.said host.old) (H.said host.new) (H.deeds host.old ++ deeds) (H.deeds host.new) (line_of fault)
+        ⊎ SaysPart (H.said host.old) (H.said host.new) (H.deeds host.old ++ deeds) (H.deeds host.new) (line_of fault)) }
 {
     match replay(rt.alloc(), words, host) {
         Ok(()) => Status::Done,
@@ -96,17 +92,11 @@ fn replay<H: Host>(alloc: Global, words: &[String], host: &mut H) -> Result<(), 
         (map string_bytes words.now) }
     ensures done { OnOk result
         (IsDone (map string_bytes words.now) (H.files host.old) (H.files host.new)) }
-    ensures stopped { IfErr result (λ fault. IsStopped (map string_bytes words.now)
-        (H.files host.old) (H.files host.new)
-        (record {
-          inputs_before = H.input_faults host.old;
-          inputs_now = H.input_faults host.new;
-          outputs_before = H.output_faults host.old;
-          outputs_now = H.output_faults host.new;
-        }) fault) }
+    ensures story { OnOk result (Adds (H.deeds host.old) (H.deeds host.new)
+        (IsStory (map string_bytes words.now) Status.Done)) }
+    ensures stopped { IfErr result (λ fault. Adds (H.deeds host.old) (H.deeds host.new)
+        (λ deeds. IsStopped (map string_bytes words.now) (H.files host.old) (H.files host.new) deeds fault)) }
     ensures said { H.said host.new ≡ H.said host.old }
-    ensures inputs_later { H.input_faults host.old ≤ H.input_faults host.new }
-    ensures outputs_later { H.output_faults host.old ≤ H.output_faults host.new }
 {
     let Some(command) = command_of(words) else {
         return Err(Fault::Words);
@@ -121,10 +111,9 @@ fn replay<H: Host>(alloc: Global, words: &[String], host: &mut H) -> Result<(), 
 fn read_chain<H: Host>(host: &mut H, name: &str) -> Result<(), Fault>
     requires { H.may_open host.old name.now }
     ensures ok { OnOk result (OnTold (H.files host.old) (IsChain name.now)) }
-    ensures err { IfErr result (λ fault. StopsAtChain name.now (H.files host.old)
-        (H.input_faults host.old) (H.input_faults host.new) fault) }
-    ensures later { H.input_faults host.old ≤ H.input_faults host.new }
-    ensures outputs { H.output_faults host.new ≡ H.output_faults host.old }
+    ensures read { OnOk result (Adds (H.deeds host.old) (H.deeds host.new) (ReadsChain name.now)) }
+    ensures err { IfErr result (λ fault. Adds (H.deeds host.old) (H.deeds host.new)
+        (λ deeds. StopsAtChain name.now (H.files host.old) deeds fault)) }
     ensures files { H.files host.new ≡ H.files host.old }
     ensures said { H.said host.new ≡ H.said host.old }
     ensures names { SameNames (H.may_open host.old) (H.may_create host.old)
@@ -150,10 +139,9 @@ fn read_capture<H: Host>(alloc: Global, host: &mut H, name: &str) -> Result<Fram
     ensures ok { IfOk result (λ frames.
         OnTold (H.files host.old) (λ files. IsGoodCapture name.now files frames)) }
     ensures within { IfOk result (λ frames. IsWithinLimits frames) }
-    ensures err { IfErr result (λ fault. StopsAtCapture name.now (H.files host.old)
-        (H.input_faults host.old) (H.input_faults host.new) fault) }
-    ensures later { H.input_faults host.old ≤ H.input_faults host.new }
-    ensures outputs { H.output_faults host.new ≡ H.output_faults host.old }
+    ensures read { OnOk result (Adds (H.deeds host.old) (H.deeds host.new) (ReadsCapture name.now)) }
+    ensures err { IfErr result (λ fault. Adds (H.deeds host.old) (H.deeds host.new)
+        (λ deeds. StopsAtCapture name.now (H.files host.old) deeds fault)) }
     ensures files { H.files host.new ≡ H.files host.old }
     ensures said { H.said host.new ≡ H.said host.old }
     ensures names { SameNames (H.may_open host.old) (H.may_create host.old)
@@ -181,10 +169,10 @@ fn write_output<H: Host>(host: &mut H, name: &str, frames: &Frames) -> Result<()
     ensures ok { OnOk result ((files : Entries) → H.files host.old ≡ Some files
         → (now : Entries) × (H.files host.new ≡ Some now)
         × OnlyChanges name.now (emit frames.now) files now) }
-    ensures err { IfErr result (λ fault. StopsAtOutput name.now frames.now
-        (H.files host.old) (H.files host.new) (H.output_faults host.old) (H.output_faults host.new) fault) }
-    ensures later { H.output_faults host.old ≤ H.output_faults host.new }
-    ensures inputs { H.input_faults host.new ≡ H.input_faults host.old }
+    ensures written { OnOk result
+        (Adds (H.deeds host.old) (H.deeds host.new) (WritesFrames frames.now name.now)) }
+    ensures err { IfErr result (λ fault. Adds (H.deeds host.old) (H.deeds host.new)
+        (λ deeds. StopsAtOutput name.now frames.now (H.files host.old) (H.files host.new) deeds fault)) }
     ensures said { H.said host.new ≡ H.said host.old }
 {
     let mut output = match host.create_output(name) {

@@ -1,9 +1,7 @@
 //! Captures and lines written.
-ghost use Rattle.std.specs.Prelude.{◌≡◌, ◌++◌, OnOk};
-ghost use Rattle.std.specs.Io.KnownBytes.{Appends};
-ghost use Rattle.onvm_host.specs.Causes.{HasCause};
+ghost use Rattle.std.specs.Prelude.{◌≡◌, OnErr, OnOk};
 ghost use Rattle.pcap_in.specs.Emitted.{emit, emitted_frame};
-ghost use Rattle.onvm_top.specs.Known.{AppendsFront, SaysOnce};
+ghost use Rattle.onvm_top.specs.Moved.{PutsAll, PutsPart, SaysAll, SaysPart};
 
 use onvm_base::{Failed, Frame, Frames};
 use onvm_host::{Host, Sink};
@@ -11,10 +9,11 @@ use pcap_in::{frame_head, header};
 
 /// Puts the whole piece.
 pub fn put_all<K: Sink>(sink: &mut K, piece: &[u8]) -> Result<(), Failed>
-    ensures ok { OnOk result (Appends (K.held sink.old) (K.held sink.new) piece.now) }
-    ensures front { AppendsFront (K.held sink.old) (K.held sink.new) piece.now }
+    ensures ok { OnOk result (PutsAll (K.held sink.old) (K.held sink.new)
+        (K.puts sink.old) (K.puts sink.new) piece.now) }
+    ensures err { OnErr result (PutsPart (K.held sink.old) (K.held sink.new)
+        (K.puts sink.old) (K.puts sink.new) piece.now) }
     ensures named { K.name sink.new ≡ K.name sink.old }
-    ensures cause { HasCause (K.faults sink.old) (K.faults sink.new) result }
 {
     let mut rest = piece;
     while !rest.is_empty() {
@@ -26,10 +25,11 @@ pub fn put_all<K: Sink>(sink: &mut K, piece: &[u8]) -> Result<(), Failed>
 
 /// Puts the capture text of the frames.
 pub fn put_capture<K: Sink>(sink: &mut K, frames: &Frames) -> Result<(), Failed>
-    ensures ok { OnOk result (Appends (K.held sink.old) (K.held sink.new) (emit frames.now)) }
-    ensures front { AppendsFront (K.held sink.old) (K.held sink.new) (emit frames.now) }
+    ensures ok { OnOk result (PutsAll (K.held sink.old) (K.held sink.new)
+        (K.puts sink.old) (K.puts sink.new) (emit frames.now)) }
+    ensures err { OnErr result (PutsPart (K.held sink.old) (K.held sink.new)
+        (K.puts sink.old) (K.puts sink.new) (emit frames.now)) }
     ensures named { K.name sink.new ≡ K.name sink.old }
-    ensures cause { HasCause (K.faults sink.old) (K.faults sink.new) result }
 {
     put_all(sink, &header())?;
     for frame in frames.as_slice() {
@@ -40,10 +40,11 @@ pub fn put_capture<K: Sink>(sink: &mut K, frames: &Frames) -> Result<(), Failed>
 
 // Puts a record: its head, and then the frame's bytes.
 fn put_frame<K: Sink>(sink: &mut K, frame: &Frame) -> Result<(), Failed>
-    ensures ok { OnOk result (Appends (K.held sink.old) (K.held sink.new) (emitted_frame frame.now)) }
-    ensures front { AppendsFront (K.held sink.old) (K.held sink.new) (emitted_frame frame.now) }
+    ensures ok { OnOk result (PutsAll (K.held sink.old) (K.held sink.new)
+        (K.puts sink.old) (K.puts sink.new) (emitted_frame frame.now)) }
+    ensures err { OnErr result (PutsPart (K.held sink.old) (K.held sink.new)
+        (K.puts sink.old) (K.puts sink.new) (emitted_frame frame.now)) }
     ensures named { K.name sink.new ≡ K.name sink.old }
-    ensures cause { HasCause (K.faults sink.old) (K.faults sink.new) result }
 {
     let bytes = frame.packet.bytes();
     put_all(sink, &frame_head(&frame.stamp, bytes.len() as u32))?;
@@ -53,12 +54,11 @@ fn put_frame<K: Sink>(sink: &mut K, frame: &Frame) -> Result<(), Failed>
 
 /// Says the whole piece.
 pub fn say_all<H: Host>(host: &mut H, piece: &[u8]) -> Result<(), Failed>
-    ensures ok { OnOk result (Appends (H.said host.old) (H.said host.new) piece.now) }
-    ensures once { SaysOnce (H.said host.old) (H.said host.new)
-        (H.output_faults host.old) (H.output_faults host.new) piece.now }
+    ensures ok { OnOk result (SaysAll (H.said host.old) (H.said host.new)
+        (H.deeds host.old) (H.deeds host.new) piece.now) }
+    ensures err { OnErr result (SaysPart (H.said host.old) (H.said host.new)
+        (H.deeds host.old) (H.deeds host.new) piece.now) }
     ensures files { H.files host.new ≡ H.files host.old }
-    ensures inputs { H.input_faults host.new ≡ H.input_faults host.old }
-    ensures cause { HasCause (H.output_faults host.old) (H.output_faults host.new) result }
 {
     let mut rest = piece;
     while !rest.is_empty() {

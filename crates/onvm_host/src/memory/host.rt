@@ -3,8 +3,9 @@ ghost use Rattle.std.specs.Prelude.{◌≡◌, ⊤, [], Some, IfOk, option_copie
 ghost use Rattle.onvm_host.specs.Files.{file_of};
 ghost use Rattle.onvm_host.specs.Given.{fails_of, given_entries, HaveDistinctNames};
 ghost use Rattle.onvm_host.specs.Memory.{entries_of};
+ghost use Rattle.onvm_host.specs.Story.{deeds_of};
 
-use crate::fault::{HostFault, raise};
+use crate::fault::HostFault;
 use crate::memory::file::{Calls, MemFiles, find_bytes, find_file};
 use crate::memory::input::MemInput;
 use crate::memory::output::MemOutput;
@@ -12,6 +13,7 @@ use crate::memory::room::Room;
 use crate::memory::tally::Tally;
 use crate::memory::written::Written;
 use crate::name::copy_of;
+use crate::story::{Amounts, Story};
 use crate::traits::Host;
 use onvm_base::{Failed, ListOf, NoMemory};
 use std::alloc::Global;
@@ -25,9 +27,9 @@ pub struct MemHost {
     written: Written,
     said: Room,
     space: u64,
-    // Counts all calls, and the faults of outputs and of what is said.
+    // Counts the calls that may fail.
     tally: Tally,
-    input_faults: u64,
+    story: Story,
 }
 
 impl MemHost {
@@ -42,8 +44,7 @@ impl MemHost {
         ensures files { IfOk result (λ host.
             ⟦<MemHost as Host>⟧.files host ≡ Some (given_entries files)) }
         ensures said { IfOk result (λ host. ⟦<MemHost as Host>⟧.said host ≡ Some []) }
-        ensures inputs { IfOk result (λ host. ⟦<MemHost as Host>⟧.input_faults host ≡ 0) }
-        ensures outputs { IfOk result (λ host. ⟦<MemHost as Host>⟧.output_faults host ≡ 0) }
+        ensures fresh { IfOk result (λ host. ⟦<MemHost as Host>⟧.deeds host ≡ []) }
     {
         Ok(MemHost {
             alloc,
@@ -52,7 +53,7 @@ impl MemHost {
             said: Room::make(alloc, space)?,
             space,
             tally: Tally::make(fail),
-            input_faults: 0,
+            story: Story::Begin,
         })
     }
 
@@ -94,13 +95,14 @@ impl MemHost {
         ensures fails { IfOk result (λ output.
             output.tally.fail ≡ fails_of name.now self.now.given) }
         ensures first { IfOk result (λ output. output.tally.calls ≡ 0) }
-        ensures fresh { IfOk result (λ output. output.tally.faults ≡ 0) }
+        ensures fresh { IfOk result (λ output. output.puts ≡ Amounts.None) }
     {
         Ok(MemOutput {
             name: copy_of(self.alloc, name)?,
             bytes: Room::make(self.alloc, self.space)?,
             tally: Tally::make(self.fail_of(name)?),
             node: Box::new(self.alloc, Written::End)?,
+            puts: Amounts::None,
         })
     }
 }
@@ -114,55 +116,60 @@ impl Host for MemHost {
 
     ghost said = { λ host. Some host.said.bytes.items };
 
-    ghost input_faults = { λ host. host.input_faults };
-
-    ghost output_faults = { λ host. host.tally.faults };
+    ghost deeds = { λ host. deeds_of host.story };
 
     ghost may_open = { λ _ _. ⊤ };
 
     ghost may_create = { λ _ _. ⊤ };
 
     fn open_input(&mut self, name: &str) -> Result<MemInput, HostFault> {
-        if self.tally.count() {
-            return Err(HostFault::from(raise(&mut self.input_faults)));
+        let copy = copy_of(self.alloc, name)?;
+        if self.tally.call().is_err() {
+            self.story.open_failed(&copy);
+            return Err(HostFault::Failed);
         }
         let Some(found) = self.file(name) else {
-            return Err(HostFault::from(raise(&mut self.input_faults)));
+            self.story.open_failed(&copy);
+            return Err(HostFault::Failed);
         };
         let bytes = Vec::from_slice(self.alloc, found)?;
-        Ok(MemInput::make(bytes, self.fail_of(name)?))
+        let fail = self.fail_of(name)?;
+        self.story.opened(&copy);
+        Ok(MemInput::make(copy, bytes, fail))
     }
 
     fn create_output(&mut self, name: &str) -> Result<MemOutput, HostFault> {
-        self.tally.call()?;
         let output = self.output(name)?;
         let empty = copy_of(self.alloc, name)?;
         let node = Box::new(self.alloc, Written::End)?;
+        if self.tally.call().is_err() {
+            self.story.create_failed(&output.name);
+            return Err(HostFault::Failed);
+        }
         self.written.put(empty, ListOf::make(self.alloc), node);
+        self.story.created(&output.name);
         Ok(output)
     }
 
     fn shut(&mut self, input: MemInput) {
-        if input.has_failed() {
-            raise(&mut self.input_faults);
-        }
+        self.story.shut(&input.name, &input.takes);
     }
 
     fn keep(&mut self, output: MemOutput) -> Result<(), Failed> {
+        let answer = self.tally.call();
+        let answer = self.story.kept(&output.name, &output.puts, answer);
         let MemOutput {
             name,
             bytes,
-            tally,
             node,
+            ..
         } = output;
         self.written.put(name, bytes.into_text(), node);
-        if tally.faults > 0 {
-            self.tally.fault();
-        }
-        self.tally.call()
+        answer
     }
 
     fn say(&mut self, piece: &[u8]) -> Result<usize, Failed> {
-        self.said.place(piece, &mut self.tally)
+        let answer = self.said.place(piece, &mut self.tally);
+        self.story.said(answer)
     }
 }

@@ -1,47 +1,64 @@
 //! What is taken of a file in memory.
-ghost use Rattle.std.specs.Prelude.{◌≡◌, ◌<◌, Some, IsTrue, ◌↔◌};
+ghost use Rattle.std.specs.Prelude.{◌≡◌, Some};
+ghost use Rattle.std.specs.Io.{ReadsAtMost};
+ghost use Rattle.std.specs.Io.KnownBytes.{ReadConsumes};
+ghost use Rattle.onvm_host.specs.Story.{amounts_of};
 
 use crate::memory::file::Calls;
 use crate::memory::tally::Tally;
+use crate::story::Amounts;
 use crate::traits::Source;
-use onvm_base::Failed;
+use onvm_base::{Failed, Name};
 use std::io::{Cursor, Read};
 
 /// Gives the bytes of a file.
 #[derive(Drop)]
 pub struct MemInput {
+    pub(super) name: Name,
     bytes: Cursor<Vec<u8>>,
     tally: Tally,
+    pub(super) takes: Amounts,
 }
 
 impl MemInput {
-    pub(super) fn make(bytes: Vec<u8>, fail: Calls) -> MemInput
+    pub(super) fn make(name: Name, bytes: Vec<u8>, fail: Calls) -> MemInput
         ensures left { ⟦<MemInput as Source>⟧.left result ≡ Some bytes.items }
-        ensures faults { ⟦<MemInput as Source>⟧.faults result ≡ 0 }
+        ensures named { result.name ≡ name }
+        ensures fresh { result.takes ≡ Amounts.None }
     {
         MemInput {
+            name,
             bytes: Cursor::new(bytes),
             tally: Tally::make(fail),
+            takes: Amounts::None,
         }
     }
 
-    pub(super) fn has_failed(&self) -> bool
-        ensures { IsTrue result ↔ (0 < ⟦<MemInput as Source>⟧.faults self.now) }
+    // Takes, and remembers nothing.
+    fn read(&mut self, into: &mut [u8]) -> Result<usize, Failed>
+        ensures bound { ReadsAtMost result into.new }
+        ensures bytes { ReadConsumes (⟦<Cursor<Vec<u8>> as Read>⟧.remaining self.old.bytes)
+            (⟦<Cursor<Vec<u8>> as Read>⟧.remaining self.new.bytes) result into.new }
+        ensures named { self.new.name ≡ self.old.name }
+        ensures takes { self.new.takes ≡ self.old.takes }
     {
-        self.tally.faults > 0
+        self.tally.call()?;
+        match self.bytes.read(into) {
+            Ok(count) => Ok(count),
+            Err(_) => Err(Failed),
+        }
     }
 }
 
 impl Source for MemInput {
     ghost left = { λ input. ⟦<Cursor<Vec<u8>> as Read>⟧.remaining input.bytes };
 
-    ghost faults = { λ input. input.tally.faults };
+    ghost name = { λ input. input.name };
+
+    ghost takes = { λ input. amounts_of input.takes };
 
     fn take(&mut self, into: &mut [u8]) -> Result<usize, Failed> {
-        self.tally.call()?;
-        match self.bytes.read(into) {
-            Ok(count) => Ok(count),
-            Err(_) => Err(self.tally.fault()),
-        }
+        let answer = self.read(into);
+        self.takes.add(answer)
     }
 }

@@ -3,7 +3,6 @@ ghost use Rattle.std.specs.Prelude.{◌≡◌, ◌≤◌, ◌<◌, ◌+◌, ◌-
 ghost use Rattle.std.specs.Prelude.{Some, IfOk, IsErr, IsTrue, vec_len, vec_capacity};
 ghost use Rattle.std.specs.Io.KnownBytes.{WriteAppends};
 ghost use Rattle.std.specs.List.{list_any};
-ghost use Rattle.onvm_host.specs.Causes.{HasCause};
 
 use crate::memory::tally::Tally;
 use onvm_base::{Failed, ListOf, NoMemory, Text};
@@ -51,7 +50,7 @@ impl Room {
         count
     }
 
-    /// Appends what fits of a piece, as a call of the tally. That none fits is a fault.
+    /// Appends what fits of a piece, as a call of the tally. Where none fits it fails.
     pub(super) fn place(&mut self, piece: &[u8], tally: &mut Tally) -> Result<usize, Failed>
         ensures count { IfOk result (λ n.
             n ≡ min (length piece.now) (self.old.space - vec_len self.old.bytes)) }
@@ -63,12 +62,11 @@ impl Room {
         ensures calls { tally.new.calls ≡ min (tally.old.calls + 1) (2 ^ 64 - 1) }
         ensures listed { IsTrue (list_any (λ number. number == tally.new.calls) tally.old.fail)
             → IsErr result }
-        ensures cause { HasCause tally.old.faults tally.new.faults result }
     {
         tally.call()?;
         let count = self.append(piece);
         if count == 0 && !piece.is_empty() {
-            return Err(tally.fault());
+            return Err(Failed);
         }
         Ok(count)
     }

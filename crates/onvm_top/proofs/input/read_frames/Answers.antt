@@ -1,4 +1,4 @@
-use Rattle.std.proofs.Common.{◌≡◌, ◌∙◌, sym, ap, subst, ◌++◌, List, ℕ, Ok, Err, arith}
+use Rattle.std.proofs.Common.{◌≡◌, ◌∙◌, sym, ap, subst, ◌++◌, List, [], ℕ, length, None, Some, Ok, Err, inl, inr, arith, rules}
 use Rattle.std.proofs.lemmas.List.{length-append}
 use Rattle.onvm_base.specs.declared.frame.Frame.{Frame}
 use Rattle.pcap_in.specs.Classic.{IsCapture}
@@ -6,10 +6,22 @@ use Rattle.pcap_in.proofs.HasRead.{HasRead-fed, HasRead-length}
 use Rattle.onvm_top.proofs.Captured.{HasRead-bound}
 use Rattle.std.proofs.lemmas.Result.{err_from_is_err_and}
 use Rattle.pcap_in.specs.Faulty.{IsCaptureUpTo}
-use Rattle.onvm_top.specs.Limits.{IsWithinLimits, PassesLimit}
+use Rattle.onvm_top.specs.Limits.{capture_limit, IsWithinLimits, PassesLimit}
+use Rattle.onvm_top.specs.Moved.{MovedSince}
 use Rattle.onvm_top.specs.declared.input.CaptureFault.TheVariants as fault
 use Rattle.onvm_top.proofs.Known.{Consumes-append, Consumes-rest, Consumes-to_end, IsAtEnd-left}
+use Rattle.onvm_top.proofs.Fed.{length-fed}
+use Rattle.onvm_top.proofs.Moved.{MovedSince-next, MovedSince-start, Reads-next}
 use Rattle.onvm_top.proofs.input.read_frames.Goals as goal
+
+pub pieces-init : goal.pieces-init
+pieces-init g c = record {
+  within = search rules;
+  unfinished = search rules;
+  short = search rules;
+  named = search rules;
+  read = ([], search rules, search rules, MovedSince-start _);
+}
 
 pub feed_piece-requires-clause-fits : goal.feed_piece-requires-clause-fits
 feed_piece-requires-clause-fits g c =
@@ -50,12 +62,20 @@ pieces-preserved g c =
     let fed : List ℕ = kept.read.0 ++ feeds.bytes in
     let now = HasRead-fed kept.read.0 feeds.bytes c.pieces.received c.pieces.reader c.feed_piece.new.reader kept.read.2 feeds.spelling feeds.place feeds.rest in
     let early = c.in_ok-pull_frames.ensures.more (ap Ok c.if-branch.false) in
+    let Since : ℕ → Type 0 = λ n. MovedSince n (g.S.Source.takes c.args.source.now) (g.S.Source.takes c.feed_piece.new.source) in
+    let some = feeds.some (c.in_ok-pull_frames.ensures.finished.0 ∙ c.if-branch.false) in
     record {
-      later = omega (arith, kept.later, c.in_ok-feed_piece.ensures.later);
       within = c.in_ok-pull_frames.ensures.within;
       unfinished = early.unfinished;
       short = early.short;
-      read = (fed, Consumes-append _ _ _ kept.read.0 feeds.bytes kept.read.1 feeds.consumed, c.in_ok-pull_frames.ensures.read fed now);
+      named = search rules;
+      read = (
+        fed,
+        Consumes-append _ _ _ kept.read.0 feeds.bytes kept.read.1 feeds.consumed,
+        c.in_ok-pull_frames.ensures.read fed now,
+        subst Since (sym (length-append kept.read.0 feeds.bytes))
+            (MovedSince-next (length kept.read.0) (length feeds.bytes) _ _ _ kept.read.3 feeds.taken some),
+      );
     }
 
 pub returns-in_err-pull_frames-clause-broken : goal.returns-in_err-pull_frames-clause-broken
@@ -86,3 +106,43 @@ returns-in_err-pull_frames-clause-too_many g c =
     let rest = Consumes-rest _ _ text fed left all in
     let P : List ℕ → Type 0 = PassesLimit in
     subst P (sym rest.2) (c.pull_frames.ensures.too_many pulled fed rest.0 now)
+
+pub returns-in_err-feed_piece-clause-read : goal.returns-in_err-feed_piece-clause-read
+returns-in_err-feed_piece-clause-read g c =
+    let passed = err_from_is_err_and c.from_residual.result c.from_residual.ensures.1 in
+    let kept = c.pieces.invariant in
+    λ is.
+    let failed : c.feed_piece.result ≡ Err fault.Read = cc (passed.1, passed.2, c.in_err-feed_piece.was, is) in
+    Reads-next capture_limit (length kept.read.0) None _ _ _ kept.read.3 (c.feed_piece.ensures.read failed)
+    (length-fed kept.read.0 c.pieces.received c.pieces.reader kept.read.2 kept.within kept.short)
+
+pub returns-in_err-feed_piece-clause-ended : goal.returns-in_err-feed_piece-clause-ended
+returns-in_err-feed_piece-clause-ended g c =
+    let passed = err_from_is_err_and c.from_residual.result c.from_residual.ensures.1 in
+    let kept = c.pieces.invariant in
+    let bound = length-fed kept.read.0 c.pieces.received c.pieces.reader kept.read.2 kept.within kept.short in
+    λ unread. elim c.in_err-feed_piece.ensures.only [
+      inl read ↦ absurd (unread (cc (passed.1, passed.2, read)))
+    | inr memory ↦
+        let failed : c.feed_piece.result ≡ Err fault.Memory = cc (c.in_err-feed_piece.was, memory) in
+        let took = c.feed_piece.ensures.memory failed in
+        (took.0, Reads-next capture_limit (length kept.read.0) (Some took.0) _ _ _ kept.read.3 took.1 bound)
+    ]
+
+pub returns-in_err-pull_frames-clause-ended : goal.returns-in_err-pull_frames-clause-ended
+returns-in_err-pull_frames-clause-ended g c = λ _.
+    let kept = c.pieces.invariant in
+    let feeds = c.in_ok-feed_piece.ensures.ok in (
+      length feeds.bytes,
+      Reads-next capture_limit (length kept.read.0) (Some (length feeds.bytes)) _ _ _ kept.read.3 feeds.taken
+          (length-fed kept.read.0 c.pieces.received c.pieces.reader kept.read.2 kept.within kept.short),
+    )
+
+pub returns-then-branch-clause-ended : goal.returns-then-branch-clause-ended
+returns-then-branch-clause-ended g c = λ _.
+    let kept = c.pieces.invariant in
+    let feeds = c.in_ok-feed_piece.ensures.ok in (
+      length feeds.bytes,
+      Reads-next capture_limit (length kept.read.0) (Some (length feeds.bytes)) _ _ _ kept.read.3 feeds.taken
+          (length-fed kept.read.0 c.pieces.received c.pieces.reader kept.read.2 kept.within kept.short),
+    )

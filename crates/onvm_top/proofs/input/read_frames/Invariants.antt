@@ -1,17 +1,19 @@
-use Rattle.std.proofs.Common.{◌≡◌, ◌≤◌, ◌<◌, ◌+◌, ◌-◌, List, ℕ, length, false}
+use Rattle.std.proofs.Common.{◌≡◌, ◌<◌, ◌+◌, ◌-◌, List, ℕ, length, false}
 use Rattle.std.specs.Io.KnownBytes.{Consumes}
 use Rattle.pcap_in.specs.Calls.{HasRead}
 use Rattle.onvm_top.specs.Limits.{IsWithinLimits}
+use Rattle.onvm_top.specs.Moved.{MovedSince}
 use Rattle.onvm_top.proofs.input.read_frames.Given as goal
 
 -- what was taken is what the frames used and the reader keeps, which is little
 abbrev pub invariant-pieces : goal.invariant-pieces
 invariant-pieces g l = record {
-  later : g.S.Source.faults l.initial.source ≤ g.S.Source.faults l.source;
   within : IsWithinLimits l.received;
   unfinished : l.reader.finished ≡ false;
   short : length l.reader.rest < 262184;
-  read : (fed : List ℕ) × Consumes (g.S.Source.left l.initial.source) (g.S.Source.left l.source) fed × HasRead fed l.received l.reader;
+  named : g.S.Source.name l.source ≡ g.S.Source.name l.initial.source;
+  read : (fed : List ℕ) × Consumes (g.S.Source.left l.initial.source) (g.S.Source.left l.source) fed × HasRead fed l.received l.reader
+      × MovedSince (length fed) (g.S.Source.takes l.initial.source) (g.S.Source.takes l.source);
 }
 
 abbrev pub decreases-pieces : goal.decreases-pieces

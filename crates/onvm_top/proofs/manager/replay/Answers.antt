@@ -1,11 +1,15 @@
-use Rattle.std.proofs.Common.{◌∙◌, sym, subst, refl, inl, inr, ◌≤◌, List, arith}
+use Rattle.std.proofs.Common.{◌∙◌, sym, subst, refl, inl, inr, List, [], Option}
 use Rattle.onvm_base.specs.declared.frame.Frame.{Frame}
+use Rattle.onvm_host.specs.Files.{Entries}
+use Rattle.onvm_host.specs.Deeds.{Deed}
 use Rattle.pcap_in.specs.Emitted.{emit}
 use Rattle.onvm_top.specs.Command.{Command}
 use Rattle.onvm_top.specs.Replay.{all_sent, OnlyChanges}
+use Rattle.onvm_top.specs.Stops.{StopsAtCapture, StopsAtOutput}
+use Rattle.onvm_top.specs.Story.{Adds, ReadsCapture, ReadsChain, Then, WritesFrames}
 use Rattle.std.proofs.lemmas.Result.{err_from_is_err_and}
 use Rattle.onvm_top.proofs.Sent.{sent_frames-all_sent}
-use Rattle.onvm_top.proofs.Stopped.{StopsAtCapture-earlier, StopsAtOutput-earlier}
+use Rattle.onvm_top.proofs.Story.{Adds-Then}
 use Rattle.onvm_top.proofs.manager.replay.Goals as goal
 
 pub read_chain-requires-after_bounds : goal.read_chain-requires-after_bounds
@@ -50,34 +54,64 @@ returns-clause-done g c =
           },
     )
 
+pub returns-clause-story : goal.returns-clause-story
+returns-clause-story g c =
+    let command : Command = record { chain = c.in-Some.command.chain.now; out = c.in-Some.command.out.now; capture = c.in-Some.command.capture.now } in
+    let frames = c.in_ok-frames.frames in
+    let calls = Adds-Then (g.H.Host.deeds c.args.host.now) (g.H.Host.deeds c.read_chain.new.host) (g.H.Host.deeds c.write_output.new.host)
+    (ReadsChain command.chain) (Then (ReadsCapture command.capture) (WritesFrames frames command.out)) c.in_ok-read_chain.ensures.read
+    (Adds-Then (g.H.Host.deeds c.read_chain.new.host) (g.H.Host.deeds c.read_capture.new.host) (g.H.Host.deeds c.write_output.new.host)
+    (ReadsCapture command.capture) (WritesFrames frames command.out) c.in_ok-frames.ensures.read c.in_ok-write_output.ensures.written) in
+    (calls.0, calls.1, inr (command, c.in-Some.ensures.found, (frames, c.in_ok-frames.ensures.within, calls.2)))
+
+pub returns-in_err-read_chain-clause-stopped : goal.returns-in_err-read_chain-clause-stopped
+returns-in_err-read_chain-clause-stopped g c =
+    let passed = err_from_is_err_and c.from_residual.result c.from_residual.ensures.1 in
+    let command : Command = record { chain = c.in-Some.command.chain.now; out = c.in-Some.command.out.now; capture = c.in-Some.command.capture.now } in
+    let stops = c.in_err-read_chain.ensures.err in
+    rw (passed.1, passed.2) (stops.0, stops.1, inr (inl (command, c.in-Some.ensures.found, c.in_err-read_chain.ensures.files, stops.2)))
+
 pub returns-in_err-frames-clause-stopped : goal.returns-in_err-frames-clause-stopped
 returns-in_err-frames-clause-stopped g c =
     let passed = err_from_is_err_and c.from_residual-in_err-frames.result c.from_residual-in_err-frames.ensures.1 in
     let command : Command = record { chain = c.in-Some.command.chain.now; out = c.in-Some.command.out.now; capture = c.in-Some.command.capture.now } in
-    rw (passed.1, passed.2) (inr (inr (inl (
+    let fault = c.in_err-frames.field-0.0 in
+    let told = g.H.Host.files c.args.host.now in
+    let Stops : Option Entries → Type 0 = λ files. Adds (g.H.Host.deeds c.read_chain.new.host) (g.H.Host.deeds c.read_capture.new.host)
+    (λ deeds. StopsAtCapture command.capture files deeds fault) in
+    let calls = Adds-Then (g.H.Host.deeds c.args.host.now) (g.H.Host.deeds c.read_chain.new.host) (g.H.Host.deeds c.read_capture.new.host)
+    (ReadsChain command.chain) (λ deeds. StopsAtCapture command.capture told deeds fault) c.in_ok-read_chain.ensures.read
+    (subst Stops c.in_ok-read_chain.ensures.files c.in_err-frames.ensures.err) in
+    rw (passed.1, passed.2) (calls.0, calls.1, inr (inr (inl (
       command,
       c.in-Some.ensures.found,
-      c.in_ok-read_chain.ensures.ok,
-      StopsAtCapture-earlier command.capture (g.H.Host.files c.args.host.now) (g.H.Host.files c.read_chain.new.host)
-          (g.H.Host.input_faults c.args.host.now) (g.H.Host.input_faults c.read_chain.new.host) (g.H.Host.input_faults c.read_capture.new.host)
-          c.in_err-frames.field-0.0 c.in_ok-read_chain.ensures.files c.in_ok-read_chain.ensures.later c.in_err-frames.ensures.err,
       c.in_err-frames.ensures.files ∙ c.in_ok-read_chain.ensures.files,
+      c.in_ok-read_chain.ensures.ok,
+      calls.2,
     ))))
 
 pub returns-in_err-write_output-clause-stopped : goal.returns-in_err-write_output-clause-stopped
 returns-in_err-write_output-clause-stopped g c =
     let passed = err_from_is_err_and c.from_residual-in_err-write_output.result c.from_residual-in_err-write_output.ensures.1 in
     let command : Command = record { chain = c.in-Some.command.chain.now; out = c.in-Some.command.out.now; capture = c.in-Some.command.capture.now } in
-    let files = c.in_ok-frames.ensures.files ∙ c.in_ok-read_chain.ensures.files in
-    let later : g.H.Host.output_faults c.args.host.now ≤ g.H.Host.output_faults c.read_capture.new.host =
-    omega (arith, c.in_ok-read_chain.ensures.outputs, c.in_ok-frames.ensures.outputs) in
-    rw (passed.1, passed.2) (inr (inr (inr (
+    let fault = c.in_err-write_output.field-0.0 in
+    let told = g.H.Host.files c.args.host.now in
+    let told_now = g.H.Host.files c.write_output.new.host in
+    let frames = c.in_ok-frames.frames in
+    let Stops : Option Entries → Type 0 = λ files. Adds (g.H.Host.deeds c.read_capture.new.host) (g.H.Host.deeds c.write_output.new.host)
+    (λ deeds. StopsAtOutput command.out frames files told_now deeds fault) in
+    let AtOutput : List Deed → Type 0 = λ deeds. StopsAtOutput command.out frames told told_now deeds fault in
+    let calls = Adds-Then (g.H.Host.deeds c.args.host.now) (g.H.Host.deeds c.read_chain.new.host) (g.H.Host.deeds c.write_output.new.host)
+    (ReadsChain command.chain) (Then (ReadsCapture command.capture) AtOutput) c.in_ok-read_chain.ensures.read
+    (Adds-Then (g.H.Host.deeds c.read_chain.new.host) (g.H.Host.deeds c.read_capture.new.host) (g.H.Host.deeds c.write_output.new.host)
+    (ReadsCapture command.capture) AtOutput c.in_ok-frames.ensures.read
+    (subst Stops (c.in_ok-frames.ensures.files ∙ c.in_ok-read_chain.ensures.files) c.in_err-write_output.ensures.err)) in
+    rw (passed.1, passed.2) (calls.0, calls.1, inr (inr (inr (
       command,
       c.in-Some.ensures.found,
       c.in_ok-read_chain.ensures.ok,
-      c.in_ok-frames.frames,
-      (λ told is. c.in_ok-frames.ensures.ok told (c.in_ok-read_chain.ensures.files ∙ is)),
-      StopsAtOutput-earlier command.out c.in_ok-frames.frames (g.H.Host.files c.args.host.now) (g.H.Host.files c.read_capture.new.host)
-          (g.H.Host.files c.write_output.new.host) (g.H.Host.output_faults c.args.host.now) (g.H.Host.output_faults c.read_capture.new.host)
-          (g.H.Host.output_faults c.write_output.new.host) c.in_err-write_output.field-0.0 files later c.in_err-write_output.ensures.err,
+      frames,
+      c.in_ok-frames.ensures.within,
+      (λ files is. c.in_ok-frames.ensures.ok files (c.in_ok-read_chain.ensures.files ∙ is)),
+      calls.2,
     ))))

@@ -1,16 +1,19 @@
-use Rattle.std.proofs.Common.{rules, ◌++◌, take, arith}
+use Rattle.std.proofs.Common.{rules, refl, [], ◌++◌, take, arith}
 use Rattle.std.proofs.lemmas.Grind.{common_steps}
-use Rattle.onvm_top.proofs.Known.{Appends-append}
+use Rattle.onvm_top.proofs.Moved.{PutsAll-next, PutsAll-start}
 use Rattle.onvm_top.proofs.output.put_all.Goals as goal
+
+pub loop-rest-init : goal.loop-rest-init
+loop-rest-init g c = (refl, ([], refl, PutsAll-start _ _))
 
 pub loop-rest-preserved : goal.loop-rest-preserved
 loop-rest-preserved g c =
     let kept = c.loop-rest.invariant in (
       search rules,
-      search rules,
       (
-        kept.2.0 ++ take c.in_ok-count.count c.loop-rest.rest.now,
+        kept.1.0 ++ take c.in_ok-count.count c.loop-rest.rest.now,
         grind (arith, common_steps),
-        Appends-append _ _ _ _ _ kept.2.2 c.in_ok-count.ensures.bytes,
+        PutsAll-next _ _ _ _ _ _ kept.1.0 c.loop-rest.rest.now c.in_ok-count.count kept.1.2 c.in_ok-count.ensures.bytes
+            (search rules) (search rules) (search rules),
       ),
     )

@@ -1,0 +1,57 @@
+-- What takes, puts and says moved together, and where they ended.
+use Rattle.std.specs.Prelude.{◌≡◌, ℕ, ◌+◌, ◌<◌, List, [], ◌∷◌, ◌++◌, length, map, Option, Some, None}
+use Rattle.std.specs.Io.KnownBytes.{Appends}
+use Rattle.onvm_host.specs.Deeds.{Amounts, Deed, Said}
+
+-- each call moved at least one byte, and all together so many
+abbrev pub Moved : ℕ → Amounts → Type 0
+Moved bytes [] = bytes ≡ 0
+Moved bytes (None ∷ amounts) = ⊥
+Moved bytes (Some count ∷ amounts) = (rest : ℕ) × (0 < count) × (bytes ≡ count + rest) × Moved rest amounts
+
+-- calls that all moved bytes came behind the earlier ones, so many together
+abbrev pub MovedSince : ℕ → Amounts → Amounts → Type 0
+MovedSince bytes before now = (amounts : Amounts) × (now ≡ before ++ amounts) × Moved bytes amounts
+
+-- the last take answered this. Each one before it gave at least one byte, and together they gave
+-- fewer than the limit
+pub record IsReading (limit : ℕ) (last : Option ℕ) (takes : Amounts) : Type 0 where
+  pub earlier : Amounts
+  pub bytes : ℕ
+  pub in_order : takes ≡ earlier ++ last ∷ []
+  pub moved : Moved bytes earlier
+  pub fewer : bytes < limit
+
+-- such takes came behind the earlier ones
+abbrev pub Reads : ℕ → Option ℕ → Amounts → Amounts → Type 0
+Reads limit last before now = (takes : Amounts) × (now ≡ before ++ takes) × IsReading limit last takes
+
+-- calls that append appended all of these bytes
+pub record AppendsAll (old new : Option (List ℕ)) (amounts : Amounts) (whole : List ℕ) : Type 0 where
+  pub appended : Appends old new whole
+  pub moved : Moved (length whole) amounts
+
+-- they appended a front of these bytes, and then one failed, which was the last
+pub record AppendsPart (old new : Option (List ℕ)) (amounts : Amounts) (whole : List ℕ) : Type 0 where
+  pub front : List ℕ
+  pub rest : List ℕ
+  pub split : whole ≡ front ++ rest
+  pub some : 0 < length rest
+  pub appended : Appends old new front
+  pub earlier : Amounts
+  pub in_order : amounts ≡ earlier ++ None ∷ []
+  pub moved : Moved (length front) earlier
+
+-- an output took all of these bytes, or a part of them, in puts behind the earlier ones
+abbrev pub PutsAll : Option (List ℕ) → Option (List ℕ) → Amounts → Amounts → List ℕ → Type 0
+PutsAll old new before now whole = (puts : Amounts) × (now ≡ before ++ puts) × AppendsAll old new puts whole
+
+abbrev pub PutsPart : Option (List ℕ) → Option (List ℕ) → Amounts → Amounts → List ℕ → Type 0
+PutsPart old new before now whole = (puts : Amounts) × (now ≡ before ++ puts) × AppendsPart old new puts whole
+
+-- a host said all of these bytes, or a part of them, in calls behind the earlier ones
+abbrev pub SaysAll : Option (List ℕ) → Option (List ℕ) → List Deed → List Deed → List ℕ → Type 0
+SaysAll old new before now whole = (says : Amounts) × (now ≡ before ++ map Said says) × AppendsAll old new says whole
+
+abbrev pub SaysPart : Option (List ℕ) → Option (List ℕ) → List Deed → List Deed → List ℕ → Type 0
+SaysPart old new before now whole = (says : Amounts) × (now ≡ before ++ map Said says) × AppendsPart old new says whole
