@@ -24,7 +24,7 @@ length-AreRecords s text (f ∷ fs) (bytes, others, text-is, is, are) =
     omega (arith, is.size, sum_by-cons (λ (frame : Frame). length frame.packet) f fs)
 
 -- the bytes of a capture
-length-IsCapture : (s : Spelling) (text : List ℕ) (frames : List Frame) → IsCaptureIn s text frames
+pub length-IsCapture : (s : Spelling) (text : List ℕ) (frames : List Frame) → IsCaptureIn s text frames
     → length text ≡ 24 + 16 * length frames + bytes_of frames
 length-IsCapture s text frames (header, others, text-is, is, are) =
     let rest : length others ≡ 16 * length frames + bytes_of frames = length-AreRecords s others frames are in
