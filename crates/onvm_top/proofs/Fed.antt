@@ -11,5 +11,11 @@ pub length-fed : (fed : List ℕ) (frames : List Frame) (reading : Reading) → 
     → length reading.rest < 262184 → length fed < capture_limit
 length-fed fed frames reading (inl start) within short = omega (arith, ap length start.2)
 length-fed fed frames reading (inr behind) within short =
-    omega (arith, ap length behind.1.fed_is, length-append behind.1.used reading.rest,
-    length-IsCapture behind.1.used frames behind.1.is_capture, within.few, within.small)
+    omega (
+      arith,
+      ap length behind.1.fed_is,
+      length-append behind.1.used reading.rest,
+      length-IsCapture behind.1.used frames behind.1.is_capture,
+      within.few,
+      within.small,
+    )
