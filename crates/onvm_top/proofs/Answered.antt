@@ -55,10 +55,13 @@ IsAnswer-stopped words told told_now deeds fault (inr (inr (inl (command, is, sa
 IsAnswer-stopped words told told_now deeds fault (inr (inr (inl (command, is, same, chain, (first, rest, split, read, inr (inr (inr memory))))))) =
     let P : Fault → Type 0 = λ f. IsAnswer words told told_now (status_of f) in
     subst P (sym memory.0) ((command, is), same)
-IsAnswer-stopped words told told_now deeds fault (inr (inr (inr (command, is, chain, frames, within, good, (first, rest, split, read, (next, last, cut, taken, inl write)))))) =
+IsAnswer-stopped words told told_now deeds fault (inr (inr (inr (command, is, chain, frames, within, good, (first, rest, split, read, (next, last, cut, taken, inl create)))))) =
     let P : Fault → Type 0 = λ f. IsAnswer words told told_now (status_of f) in
-    subst P (sym write.0) (command, is, frames, λ files told_is. (chain files told_is, good files told_is, write.2 files told_is))
-IsAnswer-stopped words told told_now deeds fault (inr (inr (inr (command, is, chain, frames, within, good, (first, rest, split, read, (next, last, cut, taken, inr memory)))))) =
+    subst P (sym create.0) (command, is, frames, λ files told_is. (chain files told_is, good files told_is, inl (create.2 ∙ told_is)))
+IsAnswer-stopped words told told_now deeds fault (inr (inr (inr (command, is, chain, frames, within, good, (first, rest, split, read, (next, last, cut, taken, inr (inl write))))))) =
+    let P : Fault → Type 0 = λ f. IsAnswer words told told_now (status_of f) in
+    subst P (sym write.0) (command, is, frames, λ files told_is. (chain files told_is, good files told_is, inr (write.2 files told_is)))
+IsAnswer-stopped words told told_now deeds fault (inr (inr (inr (command, is, chain, frames, within, good, (first, rest, split, read, (next, last, cut, taken, inr (inr memory))))))) =
     let P : Fault → Type 0 = λ f. IsAnswer words told told_now (status_of f) in
     subst P (sym memory.0) ((command, is), memory.2)
 

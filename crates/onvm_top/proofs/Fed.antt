@@ -11,5 +11,11 @@ pub length-fed : (fed : List ℕ) (frames : List Frame) (reading : Reading) → 
     → length reading.rest < 262184 → length fed < capture_limit
 length-fed fed frames reading (inl start) within short = omega (arith, ap length start.3)
 length-fed fed frames reading (inr behind) within short =
-    omega (arith, ap length behind.fed_is, length-append behind.used reading.rest,
-    length-IsCapture behind.spelling behind.used frames behind.is_capture, within.few, within.small)
+    omega (
+      arith,
+      ap length behind.fed_is,
+      length-append behind.used reading.rest,
+      length-IsCapture behind.spelling behind.used frames behind.is_capture,
+      within.few,
+      within.small,
+    )

@@ -9,7 +9,7 @@ use Rattle.onvm_host.specs.Deeds.{Amounts, Created, Deed, Kept, KeepFailed, kept
 use Rattle.onvm_host.specs.Files.{Entries, file_of, kept_files, put_file}
 use Rattle.onvm_top.specs.Moved.{AppendsAll, AppendsPart, Moved, PutsAll, PutsPart}
 use Rattle.onvm_top.specs.Replay.{OnlyChanges}
-use Rattle.onvm_top.specs.Story.{Adds, CannotWrite, IsCutShort}
+use Rattle.onvm_top.specs.Story.{Adds, CannotFinish, IsCutShort}
 use Rattle.onvm_top.proofs.Known.{Appends-to_empty}
 
 file_of-same : (name bytes : List ℕ) (files : Entries) → file_of name ((name, bytes) ∷ files) ≡ Some bytes
@@ -54,31 +54,31 @@ part_puts held held' puts text part =
     (part.earlier, length part.front, part.in_order, part.moved, omega (arith, ap length part.split, length-append part.front part.rest, part.some))
 
 -- a put failed, whatever keep answers
-pub CannotWrite-put : {A E : Type 0} (before made now : List Deed) (name same text : List ℕ) (held held' : Option (List ℕ)) (fresh puts : Amounts) (kept : Result A E)
+pub CannotFinish-put : {A E : Type 0} (before made now : List Deed) (name same text : List ℕ) (held held' : Option (List ℕ)) (fresh puts : Amounts) (kept : Result A E)
     → made ≡ before ++ Created name ∷ [] → now ≡ made ++ kept_or_failed same puts kept ∷ [] → same ≡ name → fresh ≡ []
-    → PutsPart held held' fresh puts text → Adds before now (CannotWrite (length text) name)
-CannotWrite-put before made now name same text held held' fresh puts (Ok done) first second named none part =
+    → PutsPart held held' fresh puts text → Adds before now (CannotFinish (length text) name)
+CannotFinish-put before made now name same text held held' fresh puts (Ok done) first second named none part =
     let P : Amounts → Type 0 = IsCutShort (length text) in (
       Created name ∷ Kept name puts ∷ [],
       deeds_of_kept before made now name (Kept name puts) first (second ∙ ap (λ n. made ++ Kept n puts ∷ []) named),
-      inr (inl (puts, refl, subst P (sym (all_puts fresh puts part.0 none part.1)) (part_puts held held' part.0 text part.2))),
+      inl (puts, refl, subst P (sym (all_puts fresh puts part.0 none part.1)) (part_puts held held' part.0 text part.2)),
     )
-CannotWrite-put before made now name same text held held' fresh puts (Err failed) first second named none part =
+CannotFinish-put before made now name same text held held' fresh puts (Err failed) first second named none part =
     let P : Amounts → Type 0 = IsCutShort (length text) in (
       Created name ∷ KeepFailed name puts ∷ [],
       deeds_of_kept before made now name (KeepFailed name puts) first (second ∙ ap (λ n. made ++ KeepFailed n puts ∷ []) named),
-      inr (inr (puts, refl, inr (subst P (sym (all_puts fresh puts part.0 none part.1)) (part_puts held held' part.0 text part.2)))),
+      inr (puts, refl, inr (subst P (sym (all_puts fresh puts part.0 none part.1)) (part_puts held held' part.0 text part.2))),
     )
 
 -- all was put, and keep failed
-pub CannotWrite-keep : {A E : Type 0} (before made now : List Deed) (name same text : List ℕ) (held held' : Option (List ℕ)) (fresh puts : Amounts) (kept : Result A E) (failed : E)
+pub CannotFinish-keep : {A E : Type 0} (before made now : List Deed) (name same text : List ℕ) (held held' : Option (List ℕ)) (fresh puts : Amounts) (kept : Result A E) (failed : E)
     → kept ≡ Err failed → made ≡ before ++ Created name ∷ [] → now ≡ made ++ kept_or_failed same puts kept ∷ [] → same ≡ name → fresh ≡ []
-    → PutsAll held held' fresh puts text → Adds before now (CannotWrite (length text) name)
-CannotWrite-keep {A} {E} before made now name same text held held' fresh puts kept failed is first second named none all =
+    → PutsAll held held' fresh puts text → Adds before now (CannotFinish (length text) name)
+CannotFinish-keep {A} {E} before made now name same text held held' fresh puts kept failed is first second named none all =
     let P : Amounts → Type 0 = Moved (length text) in
     let Q : Result A E → Type 0 = λ r. now ≡ made ++ kept_or_failed same puts r ∷ [] in
     let last : now ≡ made ++ KeepFailed same puts ∷ [] = subst Q is second in (
       Created name ∷ KeepFailed name puts ∷ [],
       deeds_of_kept before made now name (KeepFailed name puts) first (last ∙ ap (λ n. made ++ KeepFailed n puts ∷ []) named),
-      inr (inr (puts, refl, inl (subst P (sym (all_puts fresh puts all.0 none all.1)) all.2.moved))),
+      inr (puts, refl, inl (subst P (sym (all_puts fresh puts all.0 none all.1)) all.2.moved)),
     )

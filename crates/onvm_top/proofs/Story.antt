@@ -53,11 +53,15 @@ IsStory-stopped words told told_now deeds fault says (inr (inr (inl (command, is
 IsStory-stopped words told told_now deeds fault says (inr (inr (inl (command, is, same, chain, (first, rest, split, read, inr (inr (inr (memory, inr all)))))))) =
     let P : Fault → Type 0 = λ f. IsStory words (status_of f) (deeds ++ map Said says) in
     subst P (sym memory) (inr (command, is, inr (inr (then_more _ _ deeds first rest _ split read (then_says _ rest says all)))))
-IsStory-stopped words told told_now deeds fault says (inr (inr (inr (command, is, chain, frames, within, good, (first, rest, split, read, (next, last, cut, taken, inl write)))))) =
+IsStory-stopped words told told_now deeds fault says (inr (inr (inr (command, is, chain, frames, within, good, (first, rest, split, read, (next, last, cut, taken, inl create)))))) =
+    let P : Fault → Type 0 = λ f. IsStory words (status_of f) (deeds ++ map Said says) in
+    subst P (sym create.0)
+    (inr (command, is, (frames, within, then_more _ _ deeds first rest _ split read (then_more _ _ rest next last _ cut taken (then_says _ last says (inl create.1))))))
+IsStory-stopped words told told_now deeds fault says (inr (inr (inr (command, is, chain, frames, within, good, (first, rest, split, read, (next, last, cut, taken, inr (inl write))))))) =
     let P : Fault → Type 0 = λ f. IsStory words (status_of f) (deeds ++ map Said says) in
     subst P (sym write.0)
-    (inr (command, is, (frames, within, then_more _ _ deeds first rest _ split read (then_more _ _ rest next last _ cut taken (then_says _ last says write.1)))))
-IsStory-stopped words told told_now deeds fault says (inr (inr (inr (command, is, chain, frames, within, good, (first, rest, split, read, (next, last, cut, taken, inr memory)))))) =
+    (inr (command, is, (frames, within, then_more _ _ deeds first rest _ split read (then_more _ _ rest next last _ cut taken (then_says _ last says (inr write.1))))))
+IsStory-stopped words told told_now deeds fault says (inr (inr (inr (command, is, chain, frames, within, good, (first, rest, split, read, (next, last, cut, taken, inr (inr memory))))))) =
     let P : Fault → Type 0 = λ f. IsStory words (status_of f) (deeds ++ map Said says) in
     subst P (sym memory.0)
     (inr (command, is, inr (inr (then_more _ _ deeds first rest _ split read (then_more _ _ rest next last _ cut taken (only_says last says memory.1))))))
@@ -102,8 +106,16 @@ faults_of-Read words deeds (inr (command, is, inr (first, rest, split, read, (ne
 pub faults_of-Write : (words : List (List ℕ)) (deeds : List Deed) → IsStory words status.Write deeds → 0 < faults_of deeds
 faults_of-Write words deeds (inl (clash, says)) = cc
 faults_of-Write words deeds (inr (command, is, (frames, within, (first, rest, split, read, (next, more, cut, taken, (last, line, behind, failed, says)))))) =
-    omega (arith, ap faults_of split, faults_of-append first rest, ap faults_of cut, faults_of-append next more, ap faults_of behind,
-    faults_of-append last line, faults_write _ _ last failed)
+    omega (
+      arith,
+      ap faults_of split,
+      faults_of-append first rest,
+      ap faults_of cut,
+      faults_of-append next more,
+      ap faults_of behind,
+      faults_of-append last line,
+      faults_write _ _ last failed,
+    )
 
 -- an input was opened, and shut after these takes
 shut_after : (before opened now : List Deed) (name same : List ℕ) (takes : Amounts) → opened ≡ before ++ Opened name ∷ []

@@ -49,12 +49,10 @@ pub record IsLargeCapture (name : List ℕ) (files : Entries) : Type 0 where
 abbrev pub IsBadCapture : List ℕ → Entries → Type 0
 IsBadCapture name files = ((fault : PcapFault) × IsFaultyCapture name files fault) ⊎ IsLargeCapture name files
 
--- the files are as they were, or the one of this name is the front of the capture text
+-- the file of this name is a front of the capture text, and no other changed
 abbrev pub HoldsFront : List ℕ → List Frame → Entries → Option Entries → Type 0
 HoldsFront name frames files now =
-    (now ≡ Some files)
-    ⊎ ((entries : Entries) × (front rest : List ℕ) × (now ≡ Some entries) × (emit frames ≡ front ++ rest)
-    × OnlyChanges name front files entries)
+    (entries : Entries) × (front rest : List ℕ) × (now ≡ Some entries) × (emit frames ≡ front ++ rest) × OnlyChanges name front files entries
 
 -- status 3: the chain file is another than the one that is read
 abbrev pub HasOtherChain : List (List ℕ) → Option Entries → Type 0
@@ -65,11 +63,11 @@ abbrev pub HasBadCapture : List (List ℕ) → Option Entries → Type 0
 HasBadCapture words told = (command : Command) × IsCommand words command
     × OnTold told (λ files. IsChain command.chain files × IsBadCapture command.capture files)
 
--- status 6: chain file and capture are good, and the output may have a front of the capture text
+-- status 6: chain file and capture are good, and the files are as they were, or the output has a front
 abbrev pub FailsToWrite : List (List ℕ) → Option Entries → Option Entries → Type 0
 FailsToWrite words told told_now = (command : Command) × IsCommand words command
     × (frames : List Frame) × OnTold told (λ files. IsChain command.chain files × IsGoodCapture command.capture files frames
-    × HoldsFront command.out frames files told_now)
+    × ((told_now ≡ Some files) ⊎ HoldsFront command.out frames files told_now))
 
 -- where the words are a command and the files are told, this holds of both
 abbrev pub OnCommand : List (List ℕ) → Option Entries → (Command → Entries → Type 0) → Type 0

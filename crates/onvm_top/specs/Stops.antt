@@ -1,9 +1,10 @@
 -- Where a run stops, by which fault, after which calls, and what that tells.
-use Rattle.std.specs.Prelude.{◌≡◌, ◌⊎◌, ℕ, List, [], Option}
+use Rattle.std.specs.Prelude.{◌≡◌, ◌⊎◌, ℕ, List, [], ◌∷◌, length, Option}
 use Rattle.onvm_base.specs.declared.frame.Frame.{Frame}
 use Rattle.onvm_base.specs.declared.ids.PortId.{PortId}
-use Rattle.onvm_host.specs.Deeds.{Deed}
+use Rattle.onvm_host.specs.Deeds.{CreateFailed, Deed}
 use Rattle.onvm_host.specs.Files.{Entries}
+use Rattle.pcap_in.specs.Emitted.{emit}
 use Rattle.pcap_in.specs.declared.pull.PcapFault.{PcapFault}
 use Rattle.onvm_top.specs.declared.fault.Fault.{Fault}
 use Rattle.onvm_top.specs.declared.fault.Fault.TheVariants.{Words, Plan, Broken, TooMany, ReadChain, ReadCapture, Write, Memory}
@@ -11,7 +12,7 @@ use Rattle.onvm_top.specs.Answers.{HoldsFront, IsChain, IsFaultyCapture, IsGoodC
 use Rattle.onvm_top.specs.Command.{Command, IsCommand}
 use Rattle.onvm_top.specs.Known.{OnTold}
 use Rattle.onvm_top.specs.Limits.{IsWithinLimits}
-use Rattle.onvm_top.specs.Story.{CannotReadCapture, CannotReadChain, CannotWriteFrames, ReadsCapture, ReadsChain, Then}
+use Rattle.onvm_top.specs.Story.{CannotFinish, CannotReadCapture, CannotReadChain, ReadsCapture, ReadsChain, Then}
 
 -- at the chain file of this name, after these calls
 abbrev pub StopsAtChain : List ℕ → Option Entries → List Deed → Fault → Type 0
@@ -35,7 +36,8 @@ StopsAtCapture name told deeds fault =
 -- at the output of this name, to which these frames go
 abbrev pub StopsAtOutput : List ℕ → List Frame → Option Entries → Option Entries → List Deed → Fault → Type 0
 StopsAtOutput name frames told told_now deeds fault =
-    ((fault ≡ Write) × CannotWriteFrames frames name deeds × OnTold told (λ files. HoldsFront name frames files told_now))
+    ((fault ≡ Write) × (deeds ≡ CreateFailed name ∷ []) × (told_now ≡ told))
+    ⊎ ((fault ≡ Write) × CannotFinish (length (emit frames)) name deeds × OnTold told (λ files. HoldsFront name frames files told_now))
     ⊎ ((fault ≡ Memory) × (deeds ≡ []) × (told_now ≡ told))
 
 -- at the words, the chain file, the capture or the output. Before the output no file changes

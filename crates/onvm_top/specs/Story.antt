@@ -36,12 +36,15 @@ IsCutShort bytes amounts = (earlier : Amounts) × (fewer : ℕ) × (amounts ≡ 
 abbrev pub IsWritten : ℕ → List ℕ → List Deed → Type 0
 IsWritten bytes name deeds = (puts : Amounts) × (deeds ≡ Created name ∷ Kept name puts ∷ []) × Moved bytes puts
 
--- it could not be created, or it was kept after a failed put, or it could not be kept
-abbrev pub CannotWrite : ℕ → List ℕ → List Deed → Type 0
-CannotWrite bytes name deeds =
-    (deeds ≡ CreateFailed name ∷ [])
-    ⊎ ((puts : Amounts) × (deeds ≡ Created name ∷ Kept name puts ∷ []) × IsCutShort bytes puts)
+-- it was created, but kept after a failed put, or it could not be kept
+abbrev pub CannotFinish : ℕ → List ℕ → List Deed → Type 0
+CannotFinish bytes name deeds =
+    ((puts : Amounts) × (deeds ≡ Created name ∷ Kept name puts ∷ []) × IsCutShort bytes puts)
     ⊎ ((puts : Amounts) × (deeds ≡ Created name ∷ KeepFailed name puts ∷ []) × (Moved bytes puts ⊎ IsCutShort bytes puts))
+
+-- or it could not be created
+abbrev pub CannotWrite : ℕ → List ℕ → List Deed → Type 0
+CannotWrite bytes name deeds = (deeds ≡ CreateFailed name ∷ []) ⊎ CannotFinish bytes name deeds
 
 -- the chain file of this name. No take is made behind more bytes than the one that is read has
 abbrev pub ReadsChain : List ℕ → List Deed → Type 0

@@ -147,13 +147,13 @@ fn read_capture<H: Host>(alloc: Global, host: &mut H, name: &str) -> Result<Fram
     ensures names { SameNames (H.may_open host.old) (H.may_create host.old)
         (H.may_open host.new) (H.may_create host.new) }
 {
-    let mut input = match host.open_input(name) {
-        Ok(input) => input,
+    let mut capture = match host.open_input(name) {
+        Ok(capture) => capture,
         Err(HostFault::Failed) => return Err(Fault::ReadCapture(PORT)),
         Err(HostFault::Memory) => return Err(Fault::Memory),
     };
-    let frames = read_frames(alloc, &mut input);
-    host.shut(input);
+    let frames = read_frames(alloc, &mut capture);
+    host.shut(capture);
     match frames {
         Ok(frames) => Ok(frames),
         Err(CaptureFault::Read) => Err(Fault::ReadCapture(PORT)),

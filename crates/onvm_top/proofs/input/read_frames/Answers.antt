@@ -122,11 +122,11 @@ returns-in_err-feed_piece-clause-ended g c =
     let kept = c.pieces.invariant in
     let bound = length-fed kept.read.0 c.pieces.received c.pieces.reader kept.read.2 kept.within kept.short in
     λ unread. elim c.in_err-feed_piece.ensures.only [
-      inl read ↦ absurd (unread (cc (passed.1, passed.2, read)))
-    | inr memory ↦
-        let failed : c.feed_piece.result ≡ Err fault.Memory = cc (c.in_err-feed_piece.was, memory) in
-        let took = c.feed_piece.ensures.memory failed in
-        (took.0, Reads-next capture_limit (length kept.read.0) (Some took.0) _ _ _ kept.read.3 took.1 bound)
+      | inl read ↦ absurd (unread (cc (passed.1, passed.2, read)))
+      | inr memory ↦
+          let failed : c.feed_piece.result ≡ Err fault.Memory = cc (c.in_err-feed_piece.was, memory) in
+          let took = c.feed_piece.ensures.memory failed in
+          (took.0, Reads-next capture_limit (length kept.read.0) (Some took.0) _ _ _ kept.read.3 took.1 bound)
     ]
 
 pub returns-in_err-pull_frames-clause-ended : goal.returns-in_err-pull_frames-clause-ended

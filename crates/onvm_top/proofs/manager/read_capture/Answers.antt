@@ -9,7 +9,7 @@ returns-in-Err-Broken-clause-err g c =
     let broken : c.read_frames-frames.result ≡ Err (input.Broken c.in-Err-Broken.fault) = search rules in
     let unread : c.read_frames-frames.result ≢ Err input.Read = λ read. cc in
     let calls = IsRead-shut (g.H.Host.deeds c.args.host.now) (g.H.Host.deeds c.open_input.new.self) (g.H.Host.deeds c.shut.new.self)
-    c.args.name.now (g.H.Input.Source.name c.read_frames-frames.new.source) (g.H.Input.Source.takes c.in-Ok.input)
+    c.args.name.now (g.H.Input.Source.name c.read_frames-frames.new.source) (g.H.Input.Source.takes c.in-Ok.capture)
     (g.H.Input.Source.takes c.read_frames-frames.new.source) capture_limit c.in-Ok.ensures.told c.shut.ensures.told
     (c.read_frames-frames.ensures.named ∙ c.in-Ok.ensures.named) c.in-Ok.ensures.fresh (c.read_frames-frames.ensures.ended unread) in (
       calls.0,
@@ -30,7 +30,7 @@ returns-in-Err-TooMany-clause-err g c =
     let large : c.read_frames-frames.result ≡ Err input.TooMany = search rules in
     let unread : c.read_frames-frames.result ≢ Err input.Read = λ read. cc in
     let calls = IsRead-shut (g.H.Host.deeds c.args.host.now) (g.H.Host.deeds c.open_input.new.self) (g.H.Host.deeds c.shut.new.self)
-    c.args.name.now (g.H.Input.Source.name c.read_frames-frames.new.source) (g.H.Input.Source.takes c.in-Ok.input)
+    c.args.name.now (g.H.Input.Source.name c.read_frames-frames.new.source) (g.H.Input.Source.takes c.in-Ok.capture)
     (g.H.Input.Source.takes c.read_frames-frames.new.source) capture_limit c.in-Ok.ensures.told c.shut.ensures.told
     (c.read_frames-frames.ensures.named ∙ c.in-Ok.ensures.named) c.in-Ok.ensures.fresh (c.read_frames-frames.ensures.ended unread) in (
       calls.0,

@@ -82,13 +82,17 @@ returns-in_err-frames-clause-stopped g c =
     let calls = Adds-Then (g.H.Host.deeds c.args.host.now) (g.H.Host.deeds c.read_chain.new.host) (g.H.Host.deeds c.read_capture.new.host)
     (ReadsChain command.chain) (λ deeds. StopsAtCapture command.capture told deeds fault) c.in_ok-read_chain.ensures.read
     (subst Stops c.in_ok-read_chain.ensures.files c.in_err-frames.ensures.err) in
-    rw (passed.1, passed.2) (calls.0, calls.1, inr (inr (inl (
-      command,
-      c.in-Some.ensures.found,
-      c.in_err-frames.ensures.files ∙ c.in_ok-read_chain.ensures.files,
-      c.in_ok-read_chain.ensures.ok,
-      calls.2,
-    ))))
+    rw (passed.1, passed.2) (
+      calls.0,
+      calls.1,
+      inr (inr (inl (
+        command,
+        c.in-Some.ensures.found,
+        c.in_err-frames.ensures.files ∙ c.in_ok-read_chain.ensures.files,
+        c.in_ok-read_chain.ensures.ok,
+        calls.2,
+      ))),
+    )
 
 pub returns-in_err-write_output-clause-stopped : goal.returns-in_err-write_output-clause-stopped
 returns-in_err-write_output-clause-stopped g c =
@@ -106,12 +110,16 @@ returns-in_err-write_output-clause-stopped g c =
     (Adds-Then (g.H.Host.deeds c.read_chain.new.host) (g.H.Host.deeds c.read_capture.new.host) (g.H.Host.deeds c.write_output.new.host)
     (ReadsCapture command.capture) AtOutput c.in_ok-frames.ensures.read
     (subst Stops (c.in_ok-frames.ensures.files ∙ c.in_ok-read_chain.ensures.files) c.in_err-write_output.ensures.err)) in
-    rw (passed.1, passed.2) (calls.0, calls.1, inr (inr (inr (
-      command,
-      c.in-Some.ensures.found,
-      c.in_ok-read_chain.ensures.ok,
-      frames,
-      c.in_ok-frames.ensures.within,
-      (λ files is. c.in_ok-frames.ensures.ok files (c.in_ok-read_chain.ensures.files ∙ is)),
-      calls.2,
-    ))))
+    rw (passed.1, passed.2) (
+      calls.0,
+      calls.1,
+      inr (inr (inr (
+        command,
+        c.in-Some.ensures.found,
+        c.in_ok-read_chain.ensures.ok,
+        frames,
+        c.in_ok-frames.ensures.within,
+        (λ files is. c.in_ok-frames.ensures.ok files (c.in_ok-read_chain.ensures.files ∙ is)),
+        calls.2,
+      ))),
+    )

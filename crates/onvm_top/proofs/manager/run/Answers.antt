@@ -52,8 +52,7 @@ returns-in-Err-clause-other_chain g c = λ command is files told_is other.
     let said = says_line (g.H.Host.said c.args.host.now) (g.H.Host.said c.replay.new.host) (g.H.Host.said c.say_all.new.host)
     (g.H.Host.deeds c.args.host.now) (g.H.Host.deeds c.replay.new.host) (g.H.Host.deeds c.say_all.new.host) stops.0
     (line_of c.in-Err.fault) c.as_bytes.result.now c.in-Err.ensures.said stops.1 (search rules)
-    (ok_or_err c.say_all.result _ _ c.say_all.ensures.ok c.say_all.ensures.err) in
-    (
+    (ok_or_err c.say_all.result _ _ c.say_all.ensures.ok c.say_all.ensures.err) in (
       other_chain _ told told_now c.status.result answer command is files told_is other,
       λ read. Adds-other_chain (g.H.Host.deeds c.args.host.now) (g.H.Host.deeds c.say_all.new.host) _ _ _ command.chain stops.0
           (other_chain_Read _ told told_now stops.0 c.in-Err.fault stops.2 (sym c.status.ensures ∙ read) command is files told_is other) said,
