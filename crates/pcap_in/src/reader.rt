@@ -113,7 +113,7 @@ impl Reader {
     }
 
     // Pulls the record that stands so many bytes behind the reader's place. As a call of its own it
-    // would cost a frame a tenth of its time.
+    // would cost a short frame a tenth of its time.
     #[inline]
     fn next_record(
         &mut self,
