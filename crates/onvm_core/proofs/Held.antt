@@ -36,7 +36,7 @@ use Rattle.onvm_core.proofs.WalkLogs.{no_bit}
 use Rattle.onvm_core.proofs.Crowd.{layout, port, f, b0, b1, e1, e2, e3, e4, setting, bit_7_0, bit_6_1, lowest_7, lowest_6}
 
 -- the parcel after the function answered Next
-abbrev handled : Entry → ℕ → Parcel
+abbrev pub handled : Entry → ℕ → Parcel
 handled e n = record (entry_parcel e) { trail = record { function = f; place = n; verdict = Next } ∷ [] }
 
 -- the third frame is held by the first post of feeder 0, for function f
@@ -236,7 +236,7 @@ whole_is_lawful = lawful_27
 f_of_chain : IsOfChain setting.plan e3.chain 0
 f_of_chain = record { at = 0; service = 1; named = refl; instance = 0; is = refl }
 
-raises_f : Raises setting e3 4294967297 0
+pub raises_f : Raises setting e3 4294967297 0
 raises_f = record { of_chain = f_of_chain; bit = λ h. let off : 1 ≡ 0 = h in absurd (omega (arith, off)) }
 
 abbrev is_held : IsHeld setting e3 0 4294967297 held

@@ -16,6 +16,7 @@ pub mod Marked
 pub mod Once
 pub mod Phases
 pub mod Plans
+pub mod Refused
 pub mod Scanned
 pub mod Sums
 pub mod Throttling
