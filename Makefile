@@ -17,7 +17,8 @@ test:
 	trap 'status=$$?; sh checks/total.sh "$$status" "$$log"; rm -f "$$log"; exit "$$status"' EXIT; \
 	rt ci | tee "$$log"; \
 	sh checks/repository.sh | tee -a "$$log"; \
-	sh checks/examples.sh | tee -a "$$log"
+	sh checks/examples.sh | tee -a "$$log"; \
+	sh checks/captures.sh | tee -a "$$log"
 
 run: $(program)
 	@sh checks/show.sh examples/01-one-frame

@@ -86,7 +86,7 @@ chain_or_other words a b files is other chain (bytes, file, differs) =
     differs (cc)
 
 -- the first frames of some that a port takes are taken
-within_first : (frames first rest : List Frame) → frames ≡ first ++ rest → IsWithinLimits frames → IsWithinLimits first
+pub within_first : (frames first rest : List Frame) → frames ≡ first ++ rest → IsWithinLimits frames → IsWithinLimits first
 within_first frames first rest split within =
     let count = ap (length {A = Frame}) split ∙ length-append first rest in
     let bytes = ap bytes_of split ∙ sum_by-append (λ (frame : Frame). length frame.packet) first rest in

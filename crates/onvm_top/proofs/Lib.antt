@@ -1,5 +1,6 @@
 pub mod Answered
 pub mod Captured
+pub mod Causes
 pub mod Emitting
 pub mod Fed
 pub mod Kept

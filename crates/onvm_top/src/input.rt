@@ -1,12 +1,13 @@
 //! Captures read to their end.
 ghost use Rattle.std.specs.Prelude.{◌≡◌, ◌≢◌, ◌⊎◌, ◌≤◌, ◌<◌, ◌+◌, ◌^◌, ℕ, List, [], ◌∷◌, ◌++◌, None, Some, IfOk, IfErr, OnOk, Ok, Err, length, true, false};
 ghost use Rattle.onvm_base.specs.declared.frame.Frame.{Frame};
+ghost use Rattle.pcap_in.specs.Calls.{HasRead};
 ghost use Rattle.pcap_in.specs.Classic.{IsCapture};
 ghost use Rattle.pcap_in.specs.Faulty.{IsCaptureUpTo};
 ghost use Rattle.pcap_in.specs.declared.pull.PcapFault.{PcapFault};
 ghost use Rattle.onvm_top.specs.Limits.{capture_limit, IsWithinLimits, PassesLimit};
 ghost use Rattle.onvm_top.specs.Moved.{Reads};
-ghost use Rattle.onvm_top.specs.Fed.{EndsEarly, Feeds, HasRead};
+ghost use Rattle.onvm_top.specs.Fed.{EndsEarly, Feeds};
 
 use crate::received::Received;
 use onvm_base::Frames;
@@ -108,7 +109,10 @@ fn pull_frames(
     ensures only { result ≢ Err CaptureFault.Read }
 {
     'pulls: loop {
-        match reader.next(alloc).map_err(|_| CaptureFault::Memory)? {
+        let Ok(pull) = reader.next(alloc) else {
+            return Err(CaptureFault::Memory);
+        };
+        match pull {
             Pull::Frame(frame) => received.add(frame)?,
             Pull::More => return Ok(false),
             Pull::End => return Ok(true),

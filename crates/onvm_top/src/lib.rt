@@ -9,6 +9,7 @@ mod chain;
 mod command;
 mod fault;
 mod input;
+pub mod laws;
 mod manager;
 mod output;
 mod received;

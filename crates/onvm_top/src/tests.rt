@@ -21,11 +21,25 @@ const EMITTED: [u8; 56] = [
     2, 0, 0, 0, 0, 1, 2, 0, 0, 0, 0, 2, 0x88, 0xb5, 1, 2,
 ];
 
+// The same frame high byte first: in microseconds, and in nanoseconds. What is emitted is the same
+// frame in nanoseconds, low byte first.
+const BIG_MICROS: [u8; 56] = [
+    0xa1, 0xb2, 0xc3, 0xd4, 0, 2, 0, 4, 0, 0, 0, 0, 0, 0, 0, 0, 0, 4, 0, 0, 0, 0, 0, 1, //
+    0, 0, 0, 1, 0, 0, 0, 2, 0, 0, 0, 16, 0, 0, 0, 16, //
+    2, 0, 0, 0, 0, 1, 2, 0, 0, 0, 0, 2, 0x88, 0xb5, 1, 2,
+];
+
+const BIG_NANOS: [u8; 56] = [
+    0xa1, 0xb2, 0x3c, 0x4d, 0, 2, 0, 4, 0, 0, 0, 0, 0, 0, 0, 0, 0, 4, 0, 0, 0, 0, 0, 1, //
+    0, 0, 0, 1, 0, 0, 7, 0xd0, 0, 0, 0, 16, 0, 0, 0, 16, //
+    2, 0, 0, 0, 0, 1, 2, 0, 0, 0, 0, 2, 0x88, 0xb5, 1, 2,
+];
+
 const USAGE: &str =
     "usage: onvm [--serial] [--records] [--throttle-log] [--shares] CHAIN OUT CAPTURE...\n";
 
-// The space for the output and for what is said.
-const SPACE: u64 = 300_000;
+// The space for the output and for what is said: a head for each frame that a port takes.
+const SPACE: u64 = 4_200_000;
 
 fn list_of(alloc: Global, items: &[u64]) -> Result<ListOf<u64>, Fail> {
     Ok(ListOf::from_vec(Vec::from_slice(alloc, items)?))
@@ -78,6 +92,16 @@ fn one_frame_is_sent_unchanged(rt: HostRuntime) -> Result<(), Fail> {
 }
 
 #[test]
+fn one_frame_is_sent_unchanged_whatever_its_spelling(rt: HostRuntime) -> Result<(), Fail> {
+    for capture in [BIG_MICROS, EMITTED, BIG_NANOS] {
+        let mut host = host_with(rt.alloc(), CHAIN, &capture, &[])?;
+        assert_eq!(rt; replay(&rt, &mut host, &["c", "o", "k"])?, Status::Done);
+        assert_eq!(rt; host.file("o"), Some(EMITTED.as_slice()));
+    }
+    Ok(())
+}
+
+#[test]
 fn a_header_alone_gives_the_emitted_header(rt: HostRuntime) -> Result<(), Fail> {
     let mut host = host_with(rt.alloc(), CHAIN, &CAPTURE[..24], &[])?;
     assert_eq!(rt; replay(&rt, &mut host, &["c", "o", "k"])?, Status::Done);
@@ -125,7 +149,7 @@ fn a_refused_input_has_its_status_and_line_and_makes_nothing(rt: HostRuntime) ->
         ),
         (
             CHAIN,
-            &EMITTED[..],
+            &[0; 24],
             ["c", "o", "k"],
             Status::Capture,
             "fault capture 0 magic\n",
@@ -174,6 +198,67 @@ fn a_refused_input_has_its_status_and_line_and_makes_nothing(rt: HostRuntime) ->
     Ok(())
 }
 
+// The capture with these four bytes at an offset.
+fn altered(mut capture: [u8; 56], at: usize, bytes: [u8; 4]) -> [u8; 56] {
+    for (old, new) in capture.iter_mut().skip(at).zip(bytes) {
+        *old = new;
+    }
+    capture
+}
+
+#[test]
+fn a_faulty_head_is_told_by_its_first_fault(rt: HostRuntime) -> Result<(), Fail> {
+    let link = altered(CAPTURE, 20, [101, 0, 0, 0]);
+    let fraction = altered(CAPTURE, 28, [0x40, 0x42, 0x0f, 0]);
+    for (capture, line) in [
+        (altered(link, 4, [3, 0, 4, 0]), "fault capture 0 version\n"),
+        (link, "fault capture 0 link\n"),
+        (
+            altered(fraction, 32, [1, 0, 4, 0]),
+            "fault capture 0 too-long 24 262145\n",
+        ),
+        (fraction, "fault capture 0 fraction 24\n"),
+        (
+            altered(BIG_NANOS, 28, [0x3b, 0x9a, 0xca, 0]),
+            "fault capture 0 fraction 24\n",
+        ),
+        (
+            altered(BIG_NANOS, 32, [0, 4, 0, 1]),
+            "fault capture 0 too-long 24 262145\n",
+        ),
+        (
+            altered(BIG_NANOS, 32, [0, 0, 0, 17]),
+            "fault capture 0 torn 24\n",
+        ),
+    ] {
+        let mut host = host_with(rt.alloc(), CHAIN, &capture, &[])?;
+        assert_eq!(rt; replay(&rt, &mut host, &["c", "o", "k"])?, Status::Capture);
+        assert_eq!(rt; host.said(), line.as_bytes());
+        assert!(rt; host.file("o").is_none(), "for {line}");
+    }
+    Ok(())
+}
+
+#[test]
+fn the_largest_fractions_are_read(rt: HostRuntime) -> Result<(), Fail> {
+    for (capture, nanos) in [
+        (
+            altered(CAPTURE, 28, [0x3f, 0x42, 0x0f, 0]),
+            [0x18, 0xc6, 0x9a, 0x3b],
+        ),
+        (
+            altered(BIG_NANOS, 28, [0x3b, 0x9a, 0xc9, 0xff]),
+            [0xff, 0xc9, 0x9a, 0x3b],
+        ),
+    ] {
+        let mut host = host_with(rt.alloc(), CHAIN, &capture, &[])?;
+        assert_eq!(rt; replay(&rt, &mut host, &["c", "o", "k"])?, Status::Done);
+        let emitted = altered(EMITTED, 28, nanos);
+        assert_eq!(rt; host.file("o"), Some(emitted.as_slice()));
+    }
+    Ok(())
+}
+
 #[test]
 fn the_largest_record_is_sent_unchanged(rt: HostRuntime) -> Result<(), Fail> {
     let bytes = vec![in rt.alloc(); 7u8; 262_144]?;
@@ -203,6 +288,23 @@ fn one_frame_too_many_is_refused(rt: HostRuntime) -> Result<(), Fail> {
     assert_eq!(rt; replay(&rt, &mut host, &["c", "o", "k"])?, Status::Capture);
     assert_eq!(rt; host.said(), b"fault capture 0 too-many\n".as_slice());
     assert!(rt; host.file("o").is_none());
+    Ok(())
+}
+
+#[test]
+fn as_many_frames_as_a_port_takes_are_sent(rt: HostRuntime) -> Result<(), Fail> {
+    let mut capture = Vec::from_slice(rt.alloc(), &CAPTURE[..24])?;
+    let mut emitted = Vec::from_slice(rt.alloc(), &EMITTED[..24])?;
+    for _ in 0..262_144 {
+        capture.extend_from_slice(&[0; 16])?;
+        emitted.extend_from_slice(&[0; 16])?;
+    }
+    let mut host = host_with(rt.alloc(), CHAIN, &capture, &[])?;
+    assert_eq!(rt; replay(&rt, &mut host, &["c", "o", "k"])?, Status::Done);
+    assert!(rt;
+        host.file("o")
+            .is_some_and(|file| file == emitted.as_slice())
+    );
     Ok(())
 }
 

@@ -1,6 +1,12 @@
+pub mod Calls
+pub mod Emitting
+pub mod Every
 pub mod Faults
 pub mod Grammar
+pub mod HasRead
+pub mod Items
 pub mod Judging
 pub mod OneAnswer
 pub mod Pulling
 pub mod Read
+pub mod Told

@@ -1,8 +1,9 @@
 //! A reader of captures, in whatever pieces they come.
-ghost use Rattle.std.specs.Prelude.{◌≡◌, ◌+◌, ◌^◌, ◌<◌, ◌≤◌, ◌++◌, [], true, false, length, drop, OnOk, OnErr, IfOk};
+ghost use Rattle.std.specs.Prelude.{◌≡◌, ◌+◌, ◌^◌, ◌<◌, ◌≤◌, ◌++◌, true, false, length, drop, OnOk, OnErr, IfOk};
 
 use crate::judge::{HEAD_LEN, HEADER_LEN, Header, Record, judge_header, judge_record};
 use crate::pull::{PcapFault, Pull};
+use crate::spelling::Spelling;
 use onvm_base::{Frame, NoMemory, Packet};
 use std::alloc::Global;
 use std::marker::Model;
@@ -13,6 +14,8 @@ pub struct Reader {
     // The bytes kept, of which the first `used` belong to frames that were given.
     buffer: Vec<u8>,
     used: usize,
+    // Of the header, once a frame was given.
+    spelling: Option<Spelling>,
     place: u64,
     finished: bool,
 }
@@ -24,7 +27,12 @@ impl Model for Reader {
     ghost Value = { Reading };
 
     ghost view = { λ r.
-        record { place = r.place; rest = drop r.used r.buffer.items; finished = r.finished } };
+        record {
+          spelling = r.spelling;
+          place = r.place;
+          rest = drop r.used r.buffer.items;
+          finished = r.finished;
+        } };
 
     ghost invariant = { λ r.
         (r.used ≤ length r.buffer.items)
@@ -32,18 +40,17 @@ impl Model for Reader {
 }
 
 impl Reader {
-    ghost use Rattle.pcap_in.specs.Reading.{Pulls};
+    ghost use Rattle.pcap_in.specs.Reading.{Pulls, unfed};
     ghost use Rattle.pcap_in.specs.Judged.{PullsRecord};
 
     /// A reader that has been fed nothing. It takes no memory.
     pub fn make(alloc: Global) -> Reader
-        ensures place { result.place ≡ 0 }
-        ensures rest { result.rest ≡ [] }
-        ensures finished { result.finished ≡ false }
+        ensures { result ≡ unfed }
     {
         Reader {
             buffer: Vec::new(alloc),
             used: 0,
+            spelling: None,
             place: 0,
             finished: false,
         }
@@ -86,14 +93,14 @@ impl Reader {
         ensures pull { IfOk result (λ pull. Pulls self.old pull self.new) }
         ensures err { OnErr result (self.new ≡ self.old) }
     {
-        if self.place > 0 {
-            return self.next_record(alloc, 0);
+        if let Some(spelling) = self.spelling {
+            return self.next_record(alloc, spelling, 0);
         }
         match judge_header(self.rest_behind(0)) {
-            Header::Part if self.finished => Ok(Pull::Bad(PcapFault::Torn { at: 0 })),
+            Header::Part if self.finished => Ok(Pull::Bad(PcapFault::Torn { at: self.place })),
             Header::Part => Ok(Pull::More),
             Header::Broken(fault) => Ok(Pull::Bad(fault)),
-            Header::Whole => self.next_record(alloc, HEADER_LEN),
+            Header::Whole(spelling) => self.next_record(alloc, spelling, HEADER_LEN),
         }
     }
 
@@ -106,15 +113,20 @@ impl Reader {
     }
 
     // Pulls the record that stands so many bytes behind the reader's place.
-    fn next_record(&mut self, alloc: Global, skipped: usize) -> Result<Pull, NoMemory>
+    fn next_record(
+        &mut self,
+        alloc: Global,
+        spelling: Spelling,
+        skipped: usize,
+    ) -> Result<Pull, NoMemory>
         requires { skipped ≤ length self.old.rest }
-        ensures pull { IfOk result (λ pull. PullsRecord (self.old.place + skipped)
+        ensures pull { IfOk result (λ pull. PullsRecord spelling (self.old.place + skipped)
             (drop skipped self.old.rest) self.old pull self.new) }
         ensures err { OnErr result (self.new ≡ self.old) }
     {
         let at = self.place + skipped as u64;
         let rest = self.rest_behind(skipped);
-        match judge_record(at, rest) {
+        match judge_record(spelling, at, rest) {
             Record::Part if !self.finished => Ok(Pull::More),
             Record::Part if rest.is_empty() => Ok(Pull::End),
             Record::Part => Ok(Pull::Bad(PcapFault::Torn { at })),
@@ -122,6 +134,7 @@ impl Reader {
             Record::Whole { stamp, len } => {
                 let packet = Packet::from_slice(alloc, &rest[HEAD_LEN..HEAD_LEN + len])?;
                 self.used += skipped + HEAD_LEN + len;
+                self.spelling = Some(spelling);
                 self.place = at + (HEAD_LEN + len) as u64;
                 Ok(Pull::Frame(Frame { stamp, packet }))
             }

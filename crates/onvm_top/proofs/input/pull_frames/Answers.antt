@@ -3,12 +3,13 @@ use Rattle.onvm_base.specs.declared.frame.Frame.{Frame}
 use Rattle.std.proofs.Common.{List}
 use Rattle.pcap_in.specs.Reading.{Pulls}
 use Rattle.pcap_in.specs.declared.pull.Pull.TheVariants as pull
-use Rattle.onvm_top.specs.Fed.{HasRead}
+use Rattle.pcap_in.specs.Calls.{HasRead}
 use Rattle.std.proofs.lemmas.Result.{err_from_is_err_and}
 use Rattle.pcap_in.specs.Faulty.{IsCaptureUpTo}
 use Rattle.pcap_in.specs.declared.pull.PcapFault.{PcapFault}
 use Rattle.onvm_top.specs.declared.input.CaptureFault.TheVariants as fault
-use Rattle.onvm_top.proofs.Captured.{HasRead-pulled, IsCapture-ended, IsCaptureUpTo-met, PassesLimit-pulled}
+use Rattle.pcap_in.proofs.HasRead.{HasRead-pulled, IsCapture-ended, IsCaptureUpTo-met}
+use Rattle.onvm_top.proofs.Captured.{PassesLimit-pulled}
 use Rattle.onvm_top.proofs.input.pull_frames.Goals as goal
 
 pub pulls-preserved : goal.pulls-preserved
@@ -30,7 +31,7 @@ returns-in-End-clause-ended c = λ _ fed read.
 
 pub returns-in_err-add-in-Frame-clause-too_many : goal.returns-in_err-add-in-Frame-clause-too_many
 returns-in_err-add-in-Frame-clause-too_many c =
-    let passed = err_from_is_err_and c.from_residual-in_err-add-in-Frame.result c.from_residual-in_err-add-in-Frame.ensures.1 in
+    let passed = err_from_is_err_and c.from_residual.result c.from_residual.ensures.1 in
     λ is fed more read.
     let added : c.add.result ≡ Err fault.TooMany = cc (passed.1, passed.2, c.in_err-add-in-Frame.was, is) in
     let pulls : Pulls c.pulls.reader (pull.Frame c.in-Frame.frame) c.next.new.self = search rules in

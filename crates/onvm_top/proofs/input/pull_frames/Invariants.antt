@@ -1,5 +1,5 @@
 use Rattle.std.proofs.Common.{◌≡◌, List, ℕ, length}
-use Rattle.onvm_top.specs.Fed.{HasRead}
+use Rattle.pcap_in.specs.Calls.{HasRead}
 use Rattle.onvm_top.specs.Limits.{IsWithinLimits}
 use Rattle.onvm_top.proofs.input.pull_frames.Given as goal
 

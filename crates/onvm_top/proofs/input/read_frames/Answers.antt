@@ -2,7 +2,8 @@ use Rattle.std.proofs.Common.{◌≡◌, ◌∙◌, sym, ap, subst, ◌++◌, Li
 use Rattle.std.proofs.lemmas.List.{length-append}
 use Rattle.onvm_base.specs.declared.frame.Frame.{Frame}
 use Rattle.pcap_in.specs.Classic.{IsCapture}
-use Rattle.onvm_top.proofs.Captured.{HasRead-bound, HasRead-fed, HasRead-length}
+use Rattle.pcap_in.proofs.HasRead.{HasRead-fed, HasRead-length}
+use Rattle.onvm_top.proofs.Captured.{HasRead-bound}
 use Rattle.std.proofs.lemmas.Result.{err_from_is_err_and}
 use Rattle.pcap_in.specs.Faulty.{IsCaptureUpTo}
 use Rattle.onvm_top.specs.Limits.{capture_limit, IsWithinLimits, PassesLimit}
@@ -18,6 +19,7 @@ pieces-init g c = record {
   within = search rules;
   unfinished = search rules;
   short = search rules;
+  inside = search rules;
   named = search rules;
   read = ([], search rules, search rules, MovedSince-start _);
 }
@@ -33,7 +35,7 @@ returns-then-branch-clause-whole g c = λ text told.
     let read = c.pieces.invariant.read in
     let feeds = c.in_ok-feed_piece.ensures.ok in
     let fed : List ℕ = read.0 ++ feeds.bytes in
-    let now = HasRead-fed read.0 feeds.bytes c.pieces.received c.pieces.reader c.feed_piece.new.reader read.2 feeds.place feeds.rest in
+    let now = HasRead-fed read.0 feeds.bytes c.pieces.received c.pieces.reader c.feed_piece.new.reader read.2 feeds.spelling feeds.place feeds.rest in
     let is = c.in_ok-pull_frames.ensures.ended (ap Ok c.if-branch.true) fed now in
     let all = Consumes-append _ _ _ read.0 feeds.bytes read.1 feeds.consumed in
     let whole = Consumes-to_end _ _ text fed told all (feeds.at_end (c.in_ok-pull_frames.ensures.finished.0 ∙ c.if-branch.true)) in
@@ -46,7 +48,7 @@ pieces-smaller g c =
     let kept = c.pieces.invariant in
     let feeds = c.in_ok-feed_piece.ensures.ok in
     let fed : List ℕ = kept.read.0 ++ feeds.bytes in
-    let now = HasRead-fed kept.read.0 feeds.bytes c.pieces.received c.pieces.reader c.feed_piece.new.reader kept.read.2 feeds.place feeds.rest in
+    let now = HasRead-fed kept.read.0 feeds.bytes c.pieces.received c.pieces.reader c.feed_piece.new.reader kept.read.2 feeds.spelling feeds.place feeds.rest in
     let then = c.in_ok-pull_frames.ensures.read fed now in
     let some = feeds.some (c.in_ok-pull_frames.ensures.finished.0 ∙ c.if-branch.false) in
     let before = HasRead-length kept.read.0 c.pieces.received c.pieces.reader kept.read.2 in
@@ -59,7 +61,7 @@ pieces-preserved g c =
     let kept = c.pieces.invariant in
     let feeds = c.in_ok-feed_piece.ensures.ok in
     let fed : List ℕ = kept.read.0 ++ feeds.bytes in
-    let now = HasRead-fed kept.read.0 feeds.bytes c.pieces.received c.pieces.reader c.feed_piece.new.reader kept.read.2 feeds.place feeds.rest in
+    let now = HasRead-fed kept.read.0 feeds.bytes c.pieces.received c.pieces.reader c.feed_piece.new.reader kept.read.2 feeds.spelling feeds.place feeds.rest in
     let early = c.in_ok-pull_frames.ensures.more (ap Ok c.if-branch.false) in
     let Since : ℕ → Type 0 = λ n. MovedSince n (g.S.Source.takes c.args.source.now) (g.S.Source.takes c.feed_piece.new.source) in
     let some = feeds.some (c.in_ok-pull_frames.ensures.finished.0 ∙ c.if-branch.false) in
@@ -67,6 +69,7 @@ pieces-preserved g c =
       within = c.in_ok-pull_frames.ensures.within;
       unfinished = early.unfinished;
       short = early.short;
+      inside = early.inside;
       named = search rules;
       read = (
         fed,
@@ -85,7 +88,7 @@ returns-in_err-pull_frames-clause-broken g c =
     let read = c.pieces.invariant.read in
     let feeds = c.in_ok-feed_piece.ensures.ok in
     let fed : List ℕ = read.0 ++ feeds.bytes in
-    let now = HasRead-fed read.0 feeds.bytes c.pieces.received c.pieces.reader c.feed_piece.new.reader read.2 feeds.place feeds.rest in
+    let now = HasRead-fed read.0 feeds.bytes c.pieces.received c.pieces.reader c.feed_piece.new.reader read.2 feeds.spelling feeds.place feeds.rest in
     let all = Consumes-append _ _ _ read.0 feeds.bytes read.1 feeds.consumed in
     let rest = Consumes-rest _ _ text fed left all in
     let P : List ℕ → Type 0 = λ t. (frames : List Frame) × IsCaptureUpTo t frames told × IsWithinLimits frames in
@@ -100,7 +103,7 @@ returns-in_err-pull_frames-clause-too_many g c =
     let read = c.pieces.invariant.read in
     let feeds = c.in_ok-feed_piece.ensures.ok in
     let fed : List ℕ = read.0 ++ feeds.bytes in
-    let now = HasRead-fed read.0 feeds.bytes c.pieces.received c.pieces.reader c.feed_piece.new.reader read.2 feeds.place feeds.rest in
+    let now = HasRead-fed read.0 feeds.bytes c.pieces.received c.pieces.reader c.feed_piece.new.reader read.2 feeds.spelling feeds.place feeds.rest in
     let all = Consumes-append _ _ _ read.0 feeds.bytes read.1 feeds.consumed in
     let rest = Consumes-rest _ _ text fed left all in
     let P : List ℕ → Type 0 = PassesLimit in
@@ -113,13 +116,13 @@ returns-in_err-feed_piece-clause-read g c =
     λ is.
     let failed : c.feed_piece.result ≡ Err fault.Read = cc (passed.1, passed.2, c.in_err-feed_piece.was, is) in
     Reads-next capture_limit (length kept.read.0) None _ _ _ kept.read.3 (c.feed_piece.ensures.read failed)
-    (length-fed kept.read.0 c.pieces.received c.pieces.reader kept.read.2 kept.within kept.short)
+    (length-fed kept.read.0 c.pieces.received c.pieces.reader kept.read.2 kept.within kept.short kept.inside)
 
 pub returns-in_err-feed_piece-clause-ended : goal.returns-in_err-feed_piece-clause-ended
 returns-in_err-feed_piece-clause-ended g c =
     let passed = err_from_is_err_and c.from_residual.result c.from_residual.ensures.1 in
     let kept = c.pieces.invariant in
-    let bound = length-fed kept.read.0 c.pieces.received c.pieces.reader kept.read.2 kept.within kept.short in
+    let bound = length-fed kept.read.0 c.pieces.received c.pieces.reader kept.read.2 kept.within kept.short kept.inside in
     λ unread. elim c.in_err-feed_piece.ensures.only [
       | inl read ↦ absurd (unread (cc (passed.1, passed.2, read)))
       | inr memory ↦
@@ -134,7 +137,7 @@ returns-in_err-pull_frames-clause-ended g c = λ _.
     let feeds = c.in_ok-feed_piece.ensures.ok in (
       length feeds.bytes,
       Reads-next capture_limit (length kept.read.0) (Some (length feeds.bytes)) _ _ _ kept.read.3 feeds.taken
-          (length-fed kept.read.0 c.pieces.received c.pieces.reader kept.read.2 kept.within kept.short),
+          (length-fed kept.read.0 c.pieces.received c.pieces.reader kept.read.2 kept.within kept.short kept.inside),
     )
 
 pub returns-then-branch-clause-ended : goal.returns-then-branch-clause-ended
@@ -143,5 +146,5 @@ returns-then-branch-clause-ended g c = λ _.
     let feeds = c.in_ok-feed_piece.ensures.ok in (
       length feeds.bytes,
       Reads-next capture_limit (length kept.read.0) (Some (length feeds.bytes)) _ _ _ kept.read.3 feeds.taken
-          (length-fed kept.read.0 c.pieces.received c.pieces.reader kept.read.2 kept.within kept.short),
+          (length-fed kept.read.0 c.pieces.received c.pieces.reader kept.read.2 kept.within kept.short kept.inside),
     )

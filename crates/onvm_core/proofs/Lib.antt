@@ -1,0 +1,5 @@
+pub mod Contents
+pub mod Cores
+pub mod Once
+pub mod Scanned
+pub mod Walk

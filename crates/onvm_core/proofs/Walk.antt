@@ -1,0 +1,167 @@
+-- One frame from its capture to its transmission, through one function that answers Next: 17 steps, which are lawful.
+-- So the laws speak of something.
+use Rattle.std.proofs.Common.{◌≡◌, ◌≢◌, ℕ, ◌^◌, true, false, inl, inr, List, [], ◌∷◌, refl, sym, ◌∙◌, arith, Option, Some, None}
+use Rattle.std.specs.Prelude.{◌==◌, replicate, IsBitSet}
+use Rattle.std.proofs.lemmas.Bool.{cases_Bool}
+use Rattle.onvm_base.specs.declared.ids.BufId.{BufId}
+use Rattle.onvm_base.specs.declared.ids.FnId.{FnId}
+use Rattle.onvm_base.specs.declared.ids.RingId.{RingId}
+use Rattle.onvm_base.specs.declared.ids.RingId.TheVariants.{Lane, Output}
+use Rattle.onvm_base.specs.declared.outcome.Outcome.TheVariants.{Sent}
+use Rattle.onvm_base.specs.declared.outcome.Verdict.TheVariants.{Next}
+use Rattle.onvm_core.specs.declared.layout.Layout.{Layout}
+use Rattle.onvm_core.specs.declared.layout.Word.TheVariants.{Pool as PoolWord, Cell, Post as PostWord, Weight}
+use Rattle.onvm_core.specs.declared.parcel.Parcel.{Parcel}
+use Rattle.onvm_core.specs.declared.step.Act.{Act}
+use Rattle.onvm_core.specs.declared.step.Act.TheVariants.{Split, Join, Take, Give, Push, Pop, Look}
+use Rattle.onvm_core.specs.declared.step.Item.TheVariants.{Buffer}
+use Rattle.onvm_core.specs.declared.step.Step.{Step}
+use Rattle.onvm_core.specs.declared.place.Place.{Place}
+use Rattle.onvm_core.specs.declared.place.Place.TheVariants.{Pool, Ring, Role}
+use Rattle.onvm_core.specs.Layouts.{IsBuffer}
+use Rattle.onvm_core.specs.History.{History, place_of}
+use Rattle.onvm_core.specs.Words.{pool_bits, value_of}
+use Rattle.onvm_core.specs.Lawful.{HoldsNothing, IsLawful}
+
+-- a port, a transmit role, a core, a function; 1024 buffers, rings of 128
+abbrev pub layout : Layout
+layout = record { ports = 1; transmit = 1; cores = 1; functions = 1; buffers = 1024; ring = 128; output = 128; core_of = replicate 32 0 }
+
+abbrev f : FnId
+f = record { 0 = 0 }
+
+abbrev buf : BufId
+buf = record { 0 = 0 }
+
+-- the frame of 16 bytes, as it enters and as it was handled
+abbrev pub entered : Parcel
+entered = record {
+  frame = record { port = record { 0 = 0 }; number = 1 };
+  stamp = record { seconds = 1; nanos = 2000; tail = 0 };
+  packet = 2 ∷ 0 ∷ 0 ∷ 0 ∷ 0 ∷ 1 ∷ 2 ∷ 0 ∷ 0 ∷ 0 ∷ 0 ∷ 2 ∷ 136 ∷ 181 ∷ 1 ∷ 2 ∷ [];
+  chain = record { 0 = 0 };
+  cursor = 0;
+  hash = 84696351;
+  trail = [];
+}
+
+abbrev pub handled : Parcel
+handled = record entered { trail = record { function = f; place = 0; verdict = Next } ∷ [] }
+
+abbrev by : ℕ → Act → Step
+by role act = record { role = role; act = act }
+
+-- the receive role is 0, the transmit role 1, the core 2, that of the first token 4
+abbrev pub split_all : History
+split_all = by 4 (Split 2) ∷ by 4 (Split 1) ∷ by 4 (Split 0) ∷ []
+
+abbrev pub looked : History
+looked =
+    by 0 (Look (PoolWord (record { 0 = 0 }) 0) 18446744073709551615 None)
+    ∷ by 0 (Look (PostWord 1) 0 None)
+    ∷ by 0 (Look (PostWord 0) 0 None)
+    ∷ split_all
+
+abbrev pub received : History
+received = by 0 (Push (Lane f 0) (Buffer buf entered)) ∷ by 0 (Take buf) ∷ looked
+
+abbrev pub served : History
+served =
+    by 2 (Push (Output f) (Buffer buf handled))
+    ∷ by 2 (Pop (Lane f 0) (Buffer buf entered))
+    ∷ by 2 (Look (Cell (Output f) 0) 0 None)
+    ∷ by 2 (Look (Weight f) 0 None)
+    ∷ received
+
+abbrev pub transmitted : History
+transmitted = by 1 (Give buf (Sent 0) handled) ∷ by 1 (Pop (Output f) (Buffer buf handled)) ∷ served
+
+abbrev pub walk : History
+walk = by 4 (Join 2) ∷ by 4 (Join 1) ∷ by 4 (Join 0) ∷ transmitted
+
+split_is : IsLawful layout split_all
+split_is = (
+  record { live = refl; allowed = record { first = refl; below = omega arith; not_live = refl } },
+  (
+    record { live = refl; allowed = record { first = refl; below = omega arith; not_live = refl } },
+    (
+      record { live = refl; allowed = record { first = refl; below = omega arith; not_live = refl } },
+      tt,
+    ),
+  ),
+)
+
+abbrev asked : History
+asked = by 0 (Look (PostWord 1) 0 None) ∷ by 0 (Look (PostWord 0) 0 None) ∷ split_all
+
+-- all 64 buffers of the part's first word are in the pool
+whole_pool : 18446744073709551615 ≡ pool_bits layout asked 0 0
+unfolding pool_bits
+whole_pool = refl
+
+looked_is : IsLawful layout looked
+looked_is = (
+  record { live = refl; allowed = record { known = (omega arith, omega arith); true_value = whole_pool; names = tt } },
+  (
+    record { live = refl; allowed = record { known = omega arith; true_value = refl; names = tt } },
+    (
+      record { live = refl; allowed = record { known = omega arith; true_value = refl; names = tt } },
+      split_is,
+    ),
+  ),
+)
+
+first_bit : IsBitSet 18446744073709551615 0
+first_bit h = let off : 1 ≡ 0 = h in absurd (omega arith)
+
+received_is : IsLawful layout received
+received_is = (
+  record { live = refl; allowed = record { known = (omega arith, omega arith); own_end = refl; room = omega arith; suits = (record { known = omega arith; holder = refl }, omega arith) } },
+  (
+    record { live = refl; allowed = record { known = omega arith; in_pool = refl; own_port = refl; shown = (refl, first_bit) } },
+    looked_is,
+  ),
+)
+
+served_is : IsLawful layout served
+served_is = (
+  record { live = refl; allowed = record { known = omega arith; own_end = refl; room = omega arith; suits = (record { known = omega arith; holder = refl }, omega arith, omega arith) } },
+  (
+    record { live = refl; allowed = record { known = (omega arith, omega arith); own_end = refl; first = refl } },
+    (
+      record { live = refl; allowed = record { known = (omega arith, omega arith); true_value = refl; names = tt } },
+      (
+        record { live = refl; allowed = record { known = omega arith; true_value = refl; names = tt } },
+        received_is,
+      ),
+    ),
+  ),
+)
+
+transmitted_is : IsLawful layout transmitted
+transmitted_is = (
+  record { live = refl; allowed = record { holds = record { known = omega arith; holder = refl }; names = tt } },
+  (
+    record { live = refl; allowed = record { known = omega arith; own_end = refl; first = refl } },
+    served_is,
+  ),
+)
+
+-- every buffer is in the pool again
+all_back : (b : ℕ) → place_of b transmitted ≡ Pool
+all_back b = elim (cases_Bool (0 == b)) [ inl hit ↦ rw hit refl | inr miss ↦ rw miss refl ]
+
+not_held : (role b : ℕ) → place_of b transmitted ≢ Role role
+not_held role b held = let gone : Pool ≡ Role role = sym (all_back b) ∙ held in cc
+
+pub walk_is_lawful : IsLawful layout walk
+walk_is_lawful = (
+  record { live = refl; allowed = record { first = refl; another = λ e. omega (arith, e); live = refl; empty_handed = λ b known. not_held 2 b } },
+  (
+    record { live = refl; allowed = record { first = refl; another = λ e. omega (arith, e); live = refl; empty_handed = λ b known. not_held 1 b } },
+    (
+      record { live = refl; allowed = record { first = refl; another = λ e. omega (arith, e); live = refl; empty_handed = λ b known. not_held 0 b } },
+      transmitted_is,
+    ),
+  ),
+)
