@@ -1,6 +1,5 @@
 -- A capture file has one fault, and one within the limits passes none.
-use Rattle.std.proofs.Common.{◌≡◌, ◌∙◌, sym, subst, ℕ, List, Some}
-use Rattle.onvm_base.specs.declared.frame.Frame.{Frame}
+use Rattle.std.proofs.Common.{◌≡◌, ◌∙◌, sym, subst, ℕ, List}
 use Rattle.onvm_host.specs.Files.{Entries}
 use Rattle.pcap_in.specs.Faulty.{IsCaptureUpTo}
 use Rattle.pcap_in.specs.declared.pull.PcapFault.{PcapFault}

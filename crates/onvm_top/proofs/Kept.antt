@@ -1,5 +1,5 @@
 -- What keeping an output leaves of it in the files, and in the calls.
-use Rattle.std.proofs.Common.{◌≡◌, ◌≢◌, ◌∙◌, sym, ap, subst, refl, inl, inr, ◌⊎◌, ℕ, Bool, true, false, List, [], ◌∷◌, ◌++◌, length, Option, Some, None, Result, Ok, Err, append_assoc, option_map, if◌then◌else◌, arith}
+use Rattle.std.proofs.Common.{◌≡◌, ◌≢◌, ◌∙◌, sym, ap, subst, refl, inl, inr, ℕ, Bool, true, false, List, [], ◌∷◌, ◌++◌, length, Option, Some, Result, Ok, Err, append_assoc, option_map, if◌then◌else◌, arith}
 use Rattle.std.specs.Prelude.{IsSome}
 use Rattle.std.specs.Io.KnownBytes.{Appends}
 use Rattle.std.specs.Str.{bytes_eq}
@@ -7,7 +7,7 @@ use Rattle.std.proofs.lemmas.List.{length-append}
 use Rattle.std.proofs.lemmas.Slice.Eq.{bytes_eq-Decides}
 use Rattle.onvm_host.specs.Deeds.{Amounts, Created, Deed, Kept, KeepFailed, kept_or_failed}
 use Rattle.onvm_host.specs.Files.{Entries, file_of, kept_files, put_file}
-use Rattle.onvm_top.specs.Moved.{AppendsAll, AppendsPart, Moved, PutsAll, PutsPart}
+use Rattle.onvm_top.specs.Moved.{AppendsPart, Moved, PutsAll, PutsPart}
 use Rattle.onvm_top.specs.Replay.{OnlyChanges}
 use Rattle.onvm_top.specs.Story.{Adds, CannotFinish, IsCutShort}
 use Rattle.onvm_top.proofs.Known.{Appends-to_empty}

@@ -1,16 +1,15 @@
 -- The calls of a run that was stopped, and the faults among them.
-use Rattle.std.proofs.Common.{◌≡◌, ◌∙◌, sym, ap, subst, refl, inl, inr, ◌⊎◌, ℕ, ◌+◌, ◌<◌, Bool, true, false, List, [], ◌∷◌, ◌++◌, map, Option, Some, None, Ok, Err, Result, append_assoc, if◌then◌else◌, arith}
+use Rattle.std.proofs.Common.{◌≡◌, ◌∙◌, sym, ap, subst, refl, inl, inr, ◌⊎◌, ℕ, ◌<◌, Bool, true, false, List, [], ◌∷◌, ◌++◌, map, Option, Some, None, Ok, Err, Result, append_assoc, if◌then◌else◌, arith}
 use Rattle.std.specs.Prelude.{is_none, ◌||◌, OnErr, OnOk}
 use Rattle.std.proofs.lemmas.List.{append-nil}
 use Rattle.onvm_base.specs.declared.status.Status.TheVariants as status
 use Rattle.onvm_host.specs.Deeds.{Amounts, Deed, Opened, Said, Shut, faults_of, has_failed}
 use Rattle.onvm_host.specs.Files.{Entries}
 use Rattle.onvm_host.proofs.Deeds.{faults_of-append}
-use Rattle.onvm_top.specs.Command.{Command}
 use Rattle.onvm_top.specs.Fault.{status_of}
 use Rattle.onvm_top.specs.Moved.{IsReading, Reads, SaysAll, SaysPart}
 use Rattle.onvm_top.specs.Stops.{IsStopped}
-use Rattle.onvm_top.specs.Story.{Adds, AreSays, CannotRead, CannotReadChain, CannotWrite, IsCutShort, IsRead, IsStory, IsStoryOf, Then}
+use Rattle.onvm_top.specs.Story.{Adds, AreSays, CannotRead, CannotReadChain, CannotWrite, IsCutShort, IsRead, IsStory, Then}
 use Rattle.onvm_top.specs.declared.fault.Fault.{Fault}
 
 -- deeds and says behind them

@@ -1,5 +1,5 @@
 -- Which calls a run makes of its host, in their order, and where they end.
-use Rattle.std.specs.Prelude.{◌≡◌, ◌⊎◌, ℕ, ◌+◌, ◌<◌, List, [], ◌∷◌, ◌++◌, length, map, Option, Some, None}
+use Rattle.std.specs.Prelude.{◌≡◌, ◌⊎◌, ℕ, ◌+◌, ◌<◌, List, [], ◌∷◌, ◌++◌, length, map, Some, None}
 use Rattle.onvm_base.specs.declared.frame.Frame.{Frame}
 use Rattle.onvm_base.specs.declared.status.Status.{Status}
 use Rattle.onvm_base.specs.declared.status.Status.TheVariants.{Done, Words, Plan, Capture, Read, Write, Memory}

@@ -1,4 +1,4 @@
-use Rattle.std.proofs.Common.{◌∙◌, sym, subst, refl, inl, inr, List, [], Option}
+use Rattle.std.proofs.Common.{◌∙◌, sym, subst, refl, inl, inr, List, Option}
 use Rattle.onvm_base.specs.declared.frame.Frame.{Frame}
 use Rattle.onvm_host.specs.Files.{Entries}
 use Rattle.onvm_host.specs.Deeds.{Deed}

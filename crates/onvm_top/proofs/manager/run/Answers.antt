@@ -1,13 +1,11 @@
-use Rattle.std.proofs.Common.{◌≡◌, ◌≢◌, ◌∙◌, sym, subst, ℕ, List, ◌++◌, ◌⊎◌, Option, map, rules}
+use Rattle.std.proofs.Common.{◌∙◌, sym, subst, Option, map, rules}
 use Rattle.std.specs.Prelude.{string_bytes}
 use Rattle.onvm_base.specs.declared.status.Status.{Status}
 use Rattle.onvm_base.specs.declared.status.Status.TheVariants as status
-use Rattle.onvm_host.specs.Deeds.{Deed}
 use Rattle.onvm_host.specs.Files.{Entries}
 use Rattle.onvm_top.specs.Fault.{line_of}
-use Rattle.onvm_top.specs.Moved.{SaysAll, SaysPart}
 use Rattle.onvm_top.specs.Stops.{IsStopped}
-use Rattle.onvm_top.specs.Story.{Adds, AreSays, CannotReadChain, IsStory, Then}
+use Rattle.onvm_top.specs.Story.{Adds, IsStory}
 use Rattle.onvm_top.proofs.Answered.{IsAnswer, IsAnswer-stopped, bad_capture, complete, other_chain, other_chain_Read}
 use Rattle.onvm_top.proofs.Story.{Adds-line, Adds-other_chain, faults_of-Adds, faults_of-Read, faults_of-Write, ok_or_err, says_line}
 use Rattle.onvm_top.proofs.manager.run.Goals as goal

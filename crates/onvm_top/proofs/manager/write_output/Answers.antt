@@ -1,4 +1,4 @@
-use Rattle.std.proofs.Common.{◌≡◌, ◌∙◌, sym, refl, inl, inr, [], length}
+use Rattle.std.proofs.Common.{◌∙◌, sym, refl, inl, inr, []}
 use Rattle.std.proofs.lemmas.List.{append-nil}
 use Rattle.pcap_in.specs.Emitted.{emit}
 use Rattle.onvm_top.proofs.Kept.{CannotFinish-keep, CannotFinish-put, kept_there}

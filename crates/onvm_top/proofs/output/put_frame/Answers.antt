@@ -1,4 +1,4 @@
-use Rattle.std.proofs.Common.{◌∙◌, ap, subst, ℕ, List, ◌++◌, length}
+use Rattle.std.proofs.Common.{◌∙◌, ap, subst, ℕ, List, length}
 use Rattle.pcap_in.specs.Emitted.{emitted_head}
 use Rattle.onvm_top.specs.Moved.{PutsAll, PutsPart}
 use Rattle.onvm_top.proofs.Moved.{OnErr-always, PutsAll-append, PutsPart-first, PutsPart-second}
