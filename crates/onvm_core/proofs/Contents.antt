@@ -1,10 +1,8 @@
 -- What a step does to the content of a ring.
-use Rattle.std.proofs.Common.{◌≡◌, ◌≢◌, ℕ, ◌+◌, ◌-◌, ◌<◌, ◌≤◌, Bool, true, false, ◌⊎◌, inl, inr, List, [], ◌∷◌, ◌++◌, length, drop, refl, sym, ◌∙◌, ap, subst, arith, append_assoc, length-append, length-drop, Option, Some, None}
-use Rattle.std.specs.Prelude.{slice_get, if◌then◌else◌, ◌==◌}
+use Rattle.std.proofs.Common.{◌≡◌, ℕ, ◌+◌, ◌<◌, ◌≤◌, Bool, true, inl, inr, List, [], ◌∷◌, ◌++◌, length, drop, refl, sym, ◌∙◌, ap, subst, arith, append_assoc, length-append, length-drop, Some}
+use Rattle.std.specs.Prelude.{slice_get, ◌==◌}
 use Rattle.std.proofs.lemmas.Bool.{cases_Bool, and_parts, eqb-true}
-use Rattle.std.proofs.lemmas.List.{drop-drop, drop-append-le, take-append-drop, drop_at, append-nil}
-use Rattle.std.proofs.lemmas.Grind.{common_steps}
-use Rattle.onvm_base.specs.declared.ids.FnId.{FnId}
+use Rattle.std.proofs.lemmas.List.{drop-drop, drop-append-le, append-nil}
 use Rattle.onvm_base.specs.declared.ids.RingId.{RingId}
 use Rattle.onvm_base.specs.declared.ids.RingId.TheVariants.{Lane, Output, Mail}
 use Rattle.onvm_core.specs.declared.layout.Layout.{Layout}
@@ -14,7 +12,7 @@ use Rattle.onvm_core.specs.declared.step.Act.TheVariants.{Split, Join, Take, Giv
 use Rattle.onvm_core.specs.declared.step.Step.{Step}
 use Rattle.onvm_core.specs.Layouts.{same_ring, ring_size}
 use Rattle.onvm_core.specs.History.{History, pushes, pops, pushed_on, popped_from, content_of}
-use Rattle.onvm_core.specs.Lawful.{AllowsAct, Allows, IsLawful}
+use Rattle.onvm_core.specs.Lawful.{AllowsAct, IsLawful}
 
 abbrev nat_test : ℕ → ℕ → Bool
 nat_test a b = a == b

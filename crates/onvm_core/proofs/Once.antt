@@ -1,9 +1,7 @@
 -- Each buffer is in one place.
-use Rattle.std.proofs.Common.{◌≡◌, ◌≢◌, ℕ, ◌+◌, ◌-◌, ◌*◌, ◌<◌, ◌≤◌, zero, suc, zero-add, add-zero, Bool, true, false, ◌⊎◌, inl, inr, List, [], ◌∷◌, ◌++◌, length, drop, refl, sym, ◌∙◌, ap, subst, arith, Option, Some, None}
-use Rattle.std.specs.Prelude.{slice_get, if◌then◌else◌, ◌==◌, nat_lt, unwrap_or}
-use Rattle.std.proofs.lemmas.Bool.{cases_Bool, and_parts, eqb-true, eqb-false, eq-eqb, ne_eqb, cases_order}
-use Rattle.std.proofs.lemmas.Bool.Decides.{nat_tests}
-use Rattle.std.proofs.lemmas.Grind.{common_steps}
+use Rattle.std.proofs.Common.{◌≡◌, ℕ, ◌+◌, ◌*◌, ◌<◌, ◌≤◌, zero, suc, zero-add, Bool, true, false, inl, inr, List, [], ◌∷◌, ◌++◌, refl, sym, ◌∙◌, ap, subst, arith, Some, None}
+use Rattle.std.specs.Prelude.{slice_get, if◌then◌else◌, ◌==◌, unwrap_or}
+use Rattle.std.proofs.lemmas.Bool.{cases_Bool, eqb-true, eqb-false, eq-eqb, ne_eqb, cases_order}
 use Rattle.onvm_base.specs.declared.ids.RingId.{RingId}
 use Rattle.onvm_base.specs.declared.ids.RingId.TheVariants.{Lane, Output, Mail}
 use Rattle.onvm_core.specs.declared.layout.Layout.{Layout}
@@ -15,11 +13,11 @@ use Rattle.onvm_core.specs.declared.step.Step.{Step}
 use Rattle.onvm_core.specs.declared.place.Place.{Place}
 use Rattle.onvm_core.specs.declared.place.Place.TheVariants.{Pool, Ring, Role}
 use Rattle.onvm_core.specs.Layouts.{same_ring, IsBuffer}
-use Rattle.onvm_core.specs.History.{History, pushes, pops, pushed_on, popped_from, content_of, place_of, puts}
-use Rattle.onvm_core.specs.Places.{all_below, without, one_if, how_many, times, pool_of, pool_after, held_by, held_after, hands_over, receives, is_buffer, same_place, once_at, StandsOnce}
+use Rattle.onvm_core.specs.History.{History, pushes, pops, content_of, place_of, puts}
+use Rattle.onvm_core.specs.Places.{all_below, without, one_if, how_many, times, pool_of, pool_after, held_by, held_after, is_buffer, same_place, once_at, StandsOnce}
 use Rattle.onvm_base.specs.declared.ids.BufId.{BufId}
 use Rattle.onvm_core.specs.declared.parcel.Parcel.{Parcel}
-use Rattle.onvm_core.specs.Lawful.{AllowsAct, Allows, IsLawful, Suits, Holds}
+use Rattle.onvm_core.specs.Lawful.{AllowsAct, IsLawful, Suits}
 use Rattle.onvm_core.proofs.Contents.{same_ring_is, content_moves}
 
 -- a number is among the numbers below n just once where it is below n

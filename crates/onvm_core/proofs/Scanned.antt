@@ -1,5 +1,5 @@
 -- One more step of a list, the oldest first, is the newest of the steps before.
-use Rattle.std.proofs.Common.{◌≡◌, ℕ, zero, suc, ◌+◌, ◌<◌, ◌≤◌, Bool, true, false, add-one, List, [], ◌∷◌, ◌++◌, length, get_or, take, drop, reverse, refl, sym, subst, arith, append_assoc, Option, Some, None, ◌∙◌, ap}
+use Rattle.std.proofs.Common.{◌≡◌, ℕ, zero, suc, ◌+◌, ◌<◌, ◌≤◌, Bool, true, false, add-one, List, [], ◌∷◌, ◌++◌, length, get_or, take, drop, reverse, refl, sym, subst, arith, append_assoc, Some, ◌∙◌, ap}
 use Rattle.std.specs.Prelude.{slice_get, ◌%◌, ◌^◌, ◌==◌, if◌then◌else◌}
 use Rattle.onvm_base.specs.declared.ids.RingId.{RingId}
 use Rattle.onvm_core.specs.declared.step.Item.{Item}

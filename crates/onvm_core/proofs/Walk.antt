@@ -1,11 +1,10 @@
 -- One frame from its capture to its transmission, through one function that answers Next: 17 steps, which are lawful.
 -- So the laws speak of something.
-use Rattle.std.proofs.Common.{◌≡◌, ◌≢◌, ℕ, ◌^◌, true, false, inl, inr, List, [], ◌∷◌, refl, sym, ◌∙◌, arith, Option, Some, None}
+use Rattle.std.proofs.Common.{◌≡◌, ◌≢◌, ℕ, inl, inr, [], ◌∷◌, refl, sym, ◌∙◌, arith, None}
 use Rattle.std.specs.Prelude.{◌==◌, replicate, IsBitSet}
 use Rattle.std.proofs.lemmas.Bool.{cases_Bool}
 use Rattle.onvm_base.specs.declared.ids.BufId.{BufId}
 use Rattle.onvm_base.specs.declared.ids.FnId.{FnId}
-use Rattle.onvm_base.specs.declared.ids.RingId.{RingId}
 use Rattle.onvm_base.specs.declared.ids.RingId.TheVariants.{Lane, Output}
 use Rattle.onvm_base.specs.declared.outcome.Outcome.TheVariants.{Sent}
 use Rattle.onvm_base.specs.declared.outcome.Verdict.TheVariants.{Next}
@@ -16,21 +15,19 @@ use Rattle.onvm_core.specs.declared.step.Act.{Act}
 use Rattle.onvm_core.specs.declared.step.Act.TheVariants.{Split, Join, Take, Give, Push, Pop, Look}
 use Rattle.onvm_core.specs.declared.step.Item.TheVariants.{Buffer}
 use Rattle.onvm_core.specs.declared.step.Step.{Step}
-use Rattle.onvm_core.specs.declared.place.Place.{Place}
-use Rattle.onvm_core.specs.declared.place.Place.TheVariants.{Pool, Ring, Role}
-use Rattle.onvm_core.specs.Layouts.{IsBuffer}
+use Rattle.onvm_core.specs.declared.place.Place.TheVariants.{Pool, Role}
 use Rattle.onvm_core.specs.History.{History, place_of}
-use Rattle.onvm_core.specs.Words.{pool_bits, value_of}
-use Rattle.onvm_core.specs.Lawful.{HoldsNothing, IsLawful}
+use Rattle.onvm_core.specs.Words.{pool_bits}
+use Rattle.onvm_core.specs.Lawful.{IsLawful}
 
 -- a port, a transmit role, a core, a function; 1024 buffers, rings of 128
 abbrev pub layout : Layout
 layout = record { ports = 1; transmit = 1; cores = 1; functions = 1; buffers = 1024; ring = 128; output = 128; core_of = replicate 32 0 }
 
-abbrev f : FnId
+abbrev pub f : FnId
 f = record { 0 = 0 }
 
-abbrev buf : BufId
+abbrev pub buf : BufId
 buf = record { 0 = 0 }
 
 -- the frame of 16 bytes, as it enters and as it was handled
@@ -48,7 +45,7 @@ entered = record {
 abbrev pub handled : Parcel
 handled = record entered { trail = record { function = f; place = 0; verdict = Next } ∷ [] }
 
-abbrev by : ℕ → Act → Step
+abbrev pub by : ℕ → Act → Step
 by role act = record { role = role; act = act }
 
 -- the receive role is 0, the transmit role 1, the core 2, that of the first token 4
@@ -91,7 +88,7 @@ split_is = (
   ),
 )
 
-abbrev asked : History
+abbrev pub asked : History
 asked = by 0 (Look (PostWord 1) 0 None) ∷ by 0 (Look (PostWord 0) 0 None) ∷ split_all
 
 -- all 64 buffers of the part's first word are in the pool
@@ -111,8 +108,8 @@ looked_is = (
   ),
 )
 
-first_bit : IsBitSet 18446744073709551615 0
-first_bit h = let off : 1 ≡ 0 = h in absurd (omega arith)
+pub first_bit : IsBitSet 18446744073709551615 0
+first_bit h = let off : 1 ≡ 0 = h in absurd (omega (arith, off))
 
 received_is : IsLawful layout received
 received_is = (

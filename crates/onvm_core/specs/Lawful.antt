@@ -1,6 +1,5 @@
 -- Which lists of steps are lawful.
-use Rattle.std.specs.Prelude.{ℕ, ◌≡◌, ◌≢◌, ◌+◌, ◌/◌, ◌^◌, ◌<◌, ◌≤◌, true, false, if◌then◌else◌, IsBitSet, List, [], ◌∷◌, length, Option, Some, None, slice_get}
-use Rattle.onvm_base.specs.declared.ids.BufId.{BufId}
+use Rattle.std.specs.Prelude.{ℕ, ◌≡◌, ◌≢◌, ◌+◌, ◌/◌, ◌^◌, ◌<◌, ◌≤◌, true, false, if◌then◌else◌, IsBitSet, [], ◌∷◌, length, Option, Some, None, slice_get}
 use Rattle.onvm_base.specs.declared.ids.RingId.{RingId}
 use Rattle.onvm_base.specs.declared.ids.RingId.TheVariants.{Lane, Output, Mail}
 use Rattle.onvm_base.specs.declared.outcome.Outcome.{Outcome}
@@ -14,7 +13,6 @@ use Rattle.onvm_core.specs.declared.step.Item.TheVariants.{Buffer, Number}
 use Rattle.onvm_core.specs.declared.step.Act.{Act}
 use Rattle.onvm_core.specs.declared.step.Act.TheVariants.{Split, Join, Take, Give, Push, Full, Pop, Empty, Look, Post}
 use Rattle.onvm_core.specs.declared.step.Step.{Step}
-use Rattle.onvm_core.specs.declared.place.Place.{Place}
 use Rattle.onvm_core.specs.declared.place.Place.TheVariants.{Pool, Role}
 use Rattle.onvm_core.specs.Layouts.{first_role, tick_role, producer, consumer, ring_size, port_of, word_of, bit_of, IsRing, IsBuffer, IsWord, IsFeeder}
 use Rattle.onvm_core.specs.History.{History, content_of, place_of, is_live, latest_look, post_count}

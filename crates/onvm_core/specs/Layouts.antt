@@ -1,6 +1,5 @@
 -- The roles, rings, buffers and words of a layout.
-use Rattle.std.specs.Prelude.{ℕ, ◌≡◌, ◌+◌, ◌-◌, ◌*◌, ◌/◌, ◌%◌, ◌<◌, Bool, false, ◌==◌, ◌&&◌, slice_index, List, length, ◌++◌, map, replicate, All}
-use Rattle.onvm_base.specs.declared.ids.FnId.{FnId}
+use Rattle.std.specs.Prelude.{ℕ, ◌≡◌, ◌+◌, ◌-◌, ◌*◌, ◌/◌, ◌%◌, ◌<◌, Bool, false, ◌==◌, ◌&&◌, slice_index, length, ◌++◌, map, replicate, All}
 use Rattle.onvm_base.specs.declared.ids.RingId.{RingId}
 use Rattle.onvm_base.specs.declared.ids.RingId.TheVariants.{Lane, Output, Mail}
 use Rattle.onvm_base.specs.declared.plan.Plan.{Plan}

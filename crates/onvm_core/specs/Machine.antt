@@ -1,5 +1,5 @@
 -- What the machine that judges steps stands for.
-use Rattle.std.specs.Prelude.{ℕ, ◌≡◌, ◌∷◌}
+use Rattle.std.specs.Prelude.{◌≡◌, ◌∷◌}
 use Rattle.onvm_core.specs.declared.layout.Layout.{Layout}
 use Rattle.onvm_core.specs.declared.judged.Judged.{Judged}
 use Rattle.onvm_core.specs.declared.judged.Judged.TheVariants.{Allowed, Refused}

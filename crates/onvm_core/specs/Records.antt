@@ -1,7 +1,6 @@
 -- The records of a list of steps, and the frames that were sent in it.
-use Rattle.std.specs.Prelude.{List, [], ◌∷◌, ◌++◌, Option, Some, None}
+use Rattle.std.specs.Prelude.{List, [], ◌∷◌, ◌++◌, Some}
 use Rattle.onvm_base.specs.declared.frame.SentFrame.{SentFrame}
-use Rattle.onvm_base.specs.declared.outcome.Outcome.{Outcome}
 use Rattle.onvm_base.specs.declared.outcome.Outcome.TheVariants.{Sent}
 use Rattle.onvm_base.specs.declared.outcome.Record.{Record}
 use Rattle.onvm_core.specs.declared.step.Act.{Act}

@@ -28,7 +28,7 @@ pub fn is_live(layout: &Layout, steps: &[Step], role: u32) -> bool
 }
 
 // Whether the layout has the buffer.
-fn is_buffer(layout: &Layout, buf: BufId) -> bool
+pub fn is_buffer(layout: &Layout, buf: BufId) -> bool
     ensures { IsTrue result ↔ IsBuffer layout.now buf.0 }
 {
     (buf.0 as u32) < layout.ports as u32 * layout.buffers as u32

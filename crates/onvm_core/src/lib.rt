@@ -20,8 +20,6 @@ mod rings;
 mod scan;
 mod state;
 mod step;
-#[cfg(test)]
-mod tests;
 mod word;
 
 pub use entry::{Entries, Entry};

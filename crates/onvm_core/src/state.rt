@@ -16,6 +16,9 @@ use onvm_base::{BufId, NoMemory};
 use std::alloc::Global;
 use std::marker::Model;
 
+#[cfg(test)]
+mod tests;
+
 /// The steps that were made on a layout. They are lawful.
 #[derive(Debug, Drop)]
 pub struct State {

@@ -112,7 +112,9 @@ impl Reader {
         &self.buffer[self.used + skipped..]
     }
 
-    // Pulls the record that stands so many bytes behind the reader's place.
+    // Pulls the record that stands so many bytes behind the reader's place. As a call of its own it
+    // would cost a short frame a tenth of its time.
+    #[inline]
     fn next_record(
         &mut self,
         alloc: Global,

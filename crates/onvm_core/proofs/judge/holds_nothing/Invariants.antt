@@ -1,4 +1,4 @@
-use Rattle.std.proofs.Common.{◌≡◌, ℕ, ◌<◌, ◌≢◌, reverse}
+use Rattle.std.proofs.Common.{ℕ, ◌<◌, ◌≢◌, reverse}
 use Rattle.onvm_core.specs.declared.place.Place.TheVariants.{Role}
 use Rattle.onvm_core.specs.History.{place_of}
 use Rattle.onvm_core.proofs.judge.holds_nothing.Given as goal

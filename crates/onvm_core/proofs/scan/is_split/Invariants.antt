@@ -1,4 +1,4 @@
-use Rattle.std.proofs.Common.{◌≡◌, ◌+◌, ◌≤◌, length, reverse, take}
+use Rattle.std.proofs.Common.{◌≡◌, reverse, take}
 use Rattle.onvm_core.specs.History.{is_split}
 use Rattle.onvm_core.proofs.scan.is_split.Given as goal
 

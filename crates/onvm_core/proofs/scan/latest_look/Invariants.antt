@@ -1,4 +1,4 @@
-use Rattle.std.proofs.Common.{◌≡◌, ◌+◌, ◌≤◌, length, reverse, take}
+use Rattle.std.proofs.Common.{◌≡◌, reverse, take}
 use Rattle.onvm_core.specs.History.{latest_look}
 use Rattle.onvm_core.proofs.scan.latest_look.Given as goal
 

@@ -1,4 +1,4 @@
-use Rattle.std.proofs.Common.{◌≡◌, ◌+◌, ◌≤◌, length, reverse, take}
+use Rattle.std.proofs.Common.{◌≡◌, reverse, take}
 use Rattle.onvm_core.specs.History.{place_of}
 use Rattle.onvm_core.proofs.scan.place_of.Given as goal
 

@@ -1,4 +1,4 @@
-use Rattle.std.proofs.Common.{◌≡◌, ◌+◌, ◌-◌, ◌<◌, ◌≤◌, ◌++◌, ◌∙◌, sym, ap, arith, subst, length, take, List, ℕ}
+use Rattle.std.proofs.Common.{◌≡◌, ◌-◌, ◌<◌, ◌++◌, ◌∙◌, sym, ap, arith, subst, length, take}
 use Rattle.std.specs.Prelude.{map, replicate, slice_index_or, slice_set, All}
 use Rattle.std.proofs.Math.Seq.{take-length}
 use Rattle.onvm_core.specs.declared.layout.TheConstants.{MAX_FUNCTIONS}

@@ -1,5 +1,4 @@
-use Rattle.std.proofs.Common.{◌≡◌, subst}
-use Rattle.onvm_core.specs.Layouts.{IsLayout}
+use Rattle.std.proofs.Common.{subst}
 use Rattle.onvm_core.specs.Lawful.{IsLawful}
 use Rattle.onvm_core.proofs.Once.{stands_once}
 use Rattle.onvm_core.proofs.state.State.place.Goals as goal

@@ -1,0 +1,203 @@
+-- The counts of a core's samples make up the journals of its functions.
+use Rattle.std.proofs.Common.{◌≡◌, ℕ, ◌+◌, ◌<◌, Bool, true, false, inl, inr, [], ◌∷◌, length, refl, sym, ◌∙◌, ap, subst, arith, length-append, Some, None}
+use Rattle.std.specs.Prelude.{if◌then◌else◌, ◌==◌, nat_lt, slice_index}
+use Rattle.std.proofs.lemmas.Bool.{cases_Bool, eq-eqb, eqb-true, lt-ltb, le-ltb}
+use Rattle.std.proofs.lemmas.List.{append-nil}
+use Rattle.onvm_base.specs.declared.ids.FnId.{FnId}
+use Rattle.onvm_base.specs.declared.ids.BufId.{BufId}
+use Rattle.onvm_base.specs.declared.ids.RingId.TheVariants.{Lane, Output, Mail}
+use Rattle.onvm_core.specs.declared.parcel.Parcel.{Parcel}
+use Rattle.onvm_core.specs.declared.step.Item.TheVariants.{Buffer, Number}
+use Rattle.onvm_core.specs.declared.step.Act.{Act}
+use Rattle.onvm_core.specs.declared.step.Act.TheVariants.{Split, Join, Take, Give, Push, Full, Pop, Empty, Look, Post}
+use Rattle.onvm_core.specs.History.{History}
+use Rattle.onvm_core.specs.declared.layout.Layout.{Layout}
+use Rattle.onvm_core.specs.Layouts.{IsLayout, core_role}
+use Rattle.onvm_core.specs.Logs.{Setting, Log, log_of, Hand}
+use Rattle.onvm_core.specs.Handling.{core_hand, handles, MayHandle}
+use Rattle.onvm_core.specs.Blocks.{kind_of, IsOfBlocks}
+use Rattle.onvm_core.specs.Blocks.Kind.{Handles}
+use Rattle.onvm_core.specs.Journals.{journal, journal_of, handlings, last_popped}
+use Rattle.onvm_core.specs.Samples.{count_in, is_sampled, sampled_after, since_after, handled_since, mailed_count, lost_count, MaySample, AreSamples}
+use Rattle.onvm_core.proofs.Hands.{IsKind, is_kind}
+
+-- Journals
+
+-- the buffer was popped with some parcel
+abbrev WasPopped : ℕ → Log → Type 0
+WasPopped buf log = (was : Parcel) × (last_popped buf log ≡ Some was)
+
+popped_still : (buf : ℕ) (act : Act) (before : Log) → WasPopped buf before → WasPopped buf (act ∷ before)
+popped_still buf (Pop r (Buffer b parcel)) before h =
+    elim (cases_Bool (b.0 == buf)) [ inl met ↦ (parcel, rw met refl) | inr unmet ↦ (h.0, rw unmet h.1) ]
+popped_still buf (Pop r (Number n)) before h = h
+popped_still buf (Split a) before h = h
+popped_still buf (Join a) before h = h
+popped_still buf (Take a) before h = h
+popped_still buf (Give a b c) before h = h
+popped_still buf (Push a b) before h = h
+popped_still buf (Full a) before h = h
+popped_still buf (Empty a) before h = h
+popped_still buf (Look a b c) before h = h
+popped_still buf (Post a b) before h = h
+
+some_hand : (a b : Hand) → Some a ≡ Some b → a ≡ b
+some_hand a b e = cc
+
+hand_step : (act : Act) (before : Log) (hand : Hand) → handles act (core_hand before) ≡ Some hand → (core_hand before ≡ Some hand → WasPopped hand.buf before) → WasPopped hand.buf (act ∷ before)
+hand_step (Pop (Lane f p) (Buffer b parcel)) before hand e earlier =
+    let same : record { function = f; buf = b.0; parcel = parcel } ≡ hand = some_hand (record { function = f; buf = b.0; parcel = parcel }) hand e in
+    (parcel, rw (eq-eqb b.0 hand.buf (ap (λ (h : Hand). h.buf) same)) refl)
+hand_step (Pop (Lane f p) (Number n)) before hand e earlier = earlier e
+hand_step (Pop (Output f) i) before hand e earlier = popped_still hand.buf (Pop (Output f) i) before (earlier e)
+hand_step (Pop (Mail f) i) before hand e earlier = popped_still hand.buf (Pop (Mail f) i) before (earlier e)
+hand_step (Push (Output f) i) before hand e earlier = absurd (let off : None ≡ Some hand = e in cc)
+hand_step (Push (Lane f p) i) before hand e earlier = earlier e
+hand_step (Push (Mail f) i) before hand e earlier = earlier e
+hand_step (Split a) before hand e earlier = earlier e
+hand_step (Join a) before hand e earlier = earlier e
+hand_step (Take a) before hand e earlier = earlier e
+hand_step (Give a b c) before hand e earlier = earlier e
+hand_step (Full a) before hand e earlier = earlier e
+hand_step (Empty a) before hand e earlier = earlier e
+hand_step (Look a b c) before hand e earlier = earlier e
+hand_step (Post a b) before hand e earlier = earlier e
+
+-- the buffer of the parcel in hand was popped
+hand_popped : (log : Log) (hand : Hand) → core_hand log ≡ Some hand → WasPopped hand.buf log
+hand_popped [] hand e = absurd (let off : None ≡ Some hand = e in cc)
+hand_popped (act ∷ before) hand e = hand_step act before hand e (hand_popped before hand)
+
+one_handling : (f g : FnId) (setting : Setting) (role : ℕ) (before : Log) (b : BufId) (parcel : Parcel) → MayHandle setting role before (Push (Output g) (Buffer b parcel)) → length (handlings f (Push (Output g) (Buffer b parcel)) before) ≡ (if g.0 == f.0 then 1 else 0)
+one_handling f g setting role before b parcel may =
+    let was : WasPopped b.0 before = subst (λ (n : ℕ). WasPopped n before) may.same (hand_popped before may.hand may.held) in
+    let found : last_popped b.0 before ≡ Some was.0 = was.1 in
+    elim (cases_Bool (g.0 == f.0)) [ inl met ↦ rw (met, found) refl | inr unmet ↦ rw unmet refl ]
+
+chosen : (b : Bool) (x y : ℕ) → b ≡ true → (if b then x else y) ≡ x
+chosen b x y e = rw e refl
+
+other : (b : Bool) (x y : ℕ) → b ≡ false → (if b then x else y) ≡ y
+other b x y e = rw e refl
+
+-- Samples: what was mailed, what was lost, and what was handled since, are what was handled
+
+one_id : (g f : FnId) → (g.0 == f.0) ≡ true → g ≡ f
+one_id g f e = ap (λ (n : ℕ). record { 0 = n }) (eqb-true g.0 f.0 e)
+
+mails : (mailed lost since mailed_now lost_now since_now count : ℕ) → mailed_now ≡ count + mailed → lost_now ≡ lost → since_now ≡ 0 → count ≡ since → mailed_now + lost_now + since_now ≡ mailed + lost + since
+mails mailed lost since mailed_now lost_now since_now count a b c d = omega (arith, a, b, c, d)
+
+loses : (mailed lost since lost_now since_now : ℕ) → lost_now ≡ since + lost → since_now ≡ 0 → mailed + lost_now + since_now ≡ mailed + lost + since
+loses mailed lost since lost_now since_now a b = omega (arith, a, b)
+
+abbrev Total : FnId → Log → ℕ
+Total f log = mailed_count f log + lost_count f log + handled_since f log
+
+sum_step : (f : FnId) (setting : Setting) (role : ℕ) (act : Act) (before : Log) → MayHandle setting role before act → MaySample before act → Total f before ≡ length (journal f before) → Total f (act ∷ before) ≡ length (journal f (act ∷ before))
+sum_step f setting role (Push (Output g) (Buffer b parcel)) before may samples e =
+    let more : length (handlings f (Push (Output g) (Buffer b parcel)) before) ≡ (if g.0 == f.0 then 1 else 0) = one_handling f g setting role before b parcel may in
+    let all : length (journal f (Push (Output g) (Buffer b parcel) ∷ before)) ≡ length (journal f before) + length (handlings f (Push (Output g) (Buffer b parcel)) before) = length-append (journal f before) (handlings f (Push (Output g) (Buffer b parcel)) before) in
+    elim (cases_Bool (g.0 == f.0)) [
+      | inl met ↦ let one : length (handlings f (Push (Output g) (Buffer b parcel)) before) ≡ 1 = more ∙ chosen (g.0 == f.0) 1 0 met in
+          let now : handled_since f (Push (Output g) (Buffer b parcel) ∷ before) ≡ handled_since f before + 1 = rw met refl in omega (arith, all, one, e, now)
+      | inr unmet ↦ let none : length (handlings f (Push (Output g) (Buffer b parcel)) before) ≡ 0 = more ∙ other (g.0 == f.0) 1 0 unmet in
+          let now : handled_since f (Push (Output g) (Buffer b parcel) ∷ before) ≡ handled_since f before = rw unmet refl in omega (arith, all, none, e, now)
+    ]
+sum_step f setting role (Push (Output g) (Number n)) before may samples e = absurd may
+sum_step f setting role (Push (Mail g) (Buffer b parcel)) before may samples e = absurd may
+sum_step f setting role (Push (Mail g) (Number n)) before may samples e =
+    let same : length (journal f (Push (Mail g) (Number n) ∷ before)) ≡ length (journal f before) = ap length (append-nil (journal f before)) in
+    elim (cases_Bool (g.0 == f.0)) [
+      | inl met ↦ let of : handled_since g before ≡ handled_since f before = ap (λ (h : FnId). handled_since h before) (one_id g f met) in
+          let counted : mailed_count f (Push (Mail g) (Number n) ∷ before) ≡ count_in n + mailed_count f before = rw met refl in
+          let since : handled_since f (Push (Mail g) (Number n) ∷ before) ≡ 0 = rw met refl in
+          let lost : lost_count f (Push (Mail g) (Number n) ∷ before) ≡ lost_count f before = refl in
+          let made : count_in n ≡ handled_since g before = samples.0 in
+          mails (mailed_count f before) (lost_count f before) (handled_since f before) (mailed_count f (Push (Mail g) (Number n) ∷ before)) (lost_count f (Push (Mail g) (Number n) ∷ before)) (handled_since f (Push (Mail g) (Number n) ∷ before)) (count_in n) counted lost since (made ∙ of) ∙ e ∙ sym same
+      | inr unmet ↦ rw unmet (e ∙ sym same)
+    ]
+sum_step f setting role (Full (Mail g)) before may samples e =
+    let same : length (journal f (Full (Mail g) ∷ before)) ≡ length (journal f before) = ap length (append-nil (journal f before)) in
+    elim (cases_Bool (g.0 == f.0)) [
+      | inl met ↦ let lost : lost_count f (Full (Mail g) ∷ before) ≡ handled_since f before + lost_count f before = rw met refl in
+          let since : handled_since f (Full (Mail g) ∷ before) ≡ 0 = rw met refl in
+          loses (mailed_count f before) (lost_count f before) (handled_since f before) (lost_count f (Full (Mail g) ∷ before)) (handled_since f (Full (Mail g) ∷ before)) lost since ∙ e ∙ sym same
+      | inr unmet ↦ rw unmet (e ∙ sym same)
+    ]
+sum_step f setting role (Push (Lane g p) i) before may samples e = absurd may
+sum_step f setting role (Full (Lane g p)) before may samples e = absurd may
+sum_step f setting role (Full (Output g)) before may samples e = absurd may
+sum_step f setting role (Split a) before may samples e = e ∙ sym (ap length (append-nil (journal f before)))
+sum_step f setting role (Join a) before may samples e = e ∙ sym (ap length (append-nil (journal f before)))
+sum_step f setting role (Take a) before may samples e = e ∙ sym (ap length (append-nil (journal f before)))
+sum_step f setting role (Give a b c) before may samples e = e ∙ sym (ap length (append-nil (journal f before)))
+sum_step f setting role (Pop a b) before may samples e = e ∙ sym (ap length (append-nil (journal f before)))
+sum_step f setting role (Empty a) before may samples e = e ∙ sym (ap length (append-nil (journal f before)))
+sum_step f setting role (Look a b c) before may samples e = e ∙ sym (ap length (append-nil (journal f before)))
+sum_step f setting role (Post a b) before may samples e = e ∙ sym (ap length (append-nil (journal f before)))
+
+log_counted : (f : FnId) (setting : Setting) (role : ℕ) (log : Log) → IsKind setting role Handles log → AreSamples log → Total f log ≡ length (journal f log)
+log_counted f setting role [] kind samples = refl
+log_counted f setting role (act ∷ before) kind samples =
+    sum_step f setting role act before kind.0 samples.0 (log_counted f setting role before kind.1 samples.1)
+
+kind_handles : (layout : Layout) (role core : ℕ) → role ≡ layout.ports + layout.transmit + core → core < layout.cores → kind_of layout role ≡ Handles
+kind_handles layout role core e less =
+    let one : nat_lt role layout.ports ≡ false = le-ltb role layout.ports (omega arith) in
+    let two : nat_lt role (layout.ports + layout.transmit) ≡ false = le-ltb role (layout.ports + layout.transmit) (omega arith) in
+    let three : nat_lt role (layout.ports + layout.transmit + layout.cores) ≡ true = lt-ltb role (layout.ports + layout.transmit + layout.cores) (omega arith) in
+    rw (one, two, three) refl
+
+-- the role of a function's core is a core's
+core_handles : (layout : Layout) (f : ℕ) → IsLayout layout → f < layout.functions → kind_of layout (core_role layout f) ≡ Handles
+core_handles layout f is known =
+    kind_handles layout (core_role layout f) (slice_index layout.core_of f) refl (is.core_of f 0 (omega (arith, is.places, is.functions.1, known)))
+
+-- the counts of a function's samples, mailed or lost, and what it handled since make up its journal
+pub samples_count : (setting : Setting) (past : History) (f : FnId) → IsLayout setting.layout → f.0 < setting.layout.functions
+    → IsOfBlocks setting (core_role setting.layout f.0) (log_of (core_role setting.layout f.0) past)
+    → AreSamples (log_of (core_role setting.layout f.0) past)
+    → Total f (log_of (core_role setting.layout f.0) past) ≡ length (journal_of setting past f)
+samples_count setting past f is known blocks samples =
+    let role : ℕ = core_role setting.layout f.0 in
+    log_counted f setting role (log_of role past)
+    (is_kind setting role (log_of role past) Handles (core_handles setting.layout f.0 is known) blocks) samples
+
+since_step : (f : FnId) (act : Act) (was : Bool) (n : ℕ) → (was ≡ true → n ≡ 0) → sampled_after f act was ≡ true → since_after f act n ≡ 0
+since_step f (Push (Output g) item) was n earlier e =
+    elim (cases_Bool (g.0 == f.0)) [
+      | inl met ↦ absurd (let off : false ≡ true = rw met at e in cc)
+      | inr unmet ↦ rw unmet (earlier (rw unmet at e))
+    ]
+since_step f (Push (Mail g) item) was n earlier e =
+    elim (cases_Bool (g.0 == f.0)) [ inl met ↦ rw met refl | inr unmet ↦ rw unmet (earlier (rw unmet at e)) ]
+since_step f (Full (Mail g)) was n earlier e =
+    elim (cases_Bool (g.0 == f.0)) [ inl met ↦ rw met refl | inr unmet ↦ rw unmet (earlier (rw unmet at e)) ]
+since_step f (Push (Lane g p) item) was n earlier e = earlier e
+since_step f (Full (Lane g p)) was n earlier e = earlier e
+since_step f (Full (Output g)) was n earlier e = earlier e
+since_step f (Split a) was n earlier e = earlier e
+since_step f (Join a) was n earlier e = earlier e
+since_step f (Take a) was n earlier e = earlier e
+since_step f (Give a b c) was n earlier e = earlier e
+since_step f (Pop a b) was n earlier e = earlier e
+since_step f (Empty a) was n earlier e = earlier e
+since_step f (Look a b c) was n earlier e = earlier e
+since_step f (Post a b) was n earlier e = earlier e
+
+none_since : (f : FnId) (log : Log) → is_sampled f log ≡ true → handled_since f log ≡ 0
+none_since f [] e = refl
+none_since f (act ∷ before) e = since_step f act (is_sampled f before) (handled_since f before) (none_since f before) e
+
+without_since : (mailed lost since all : ℕ) → mailed + lost + since ≡ all → since ≡ 0 → mailed + lost ≡ all
+without_since mailed lost since all e none = omega (arith, e, none)
+
+-- where a sample stands after the last push, the samples alone make up the journal
+pub samples_complete : (setting : Setting) (past : History) (f : FnId) → IsLayout setting.layout → f.0 < setting.layout.functions
+    → IsOfBlocks setting (core_role setting.layout f.0) (log_of (core_role setting.layout f.0) past)
+    → AreSamples (log_of (core_role setting.layout f.0) past) → is_sampled f (log_of (core_role setting.layout f.0) past) ≡ true
+    → mailed_count f (log_of (core_role setting.layout f.0) past) + lost_count f (log_of (core_role setting.layout f.0) past) ≡ length (journal_of setting past f)
+samples_complete setting past f is known blocks samples e =
+    let log : Log = log_of (core_role setting.layout f.0) past in
+    without_since (mailed_count f log) (lost_count f log) (handled_since f log) (length (journal_of setting past f)) (samples_count setting past f is known blocks samples) (none_since f log e)

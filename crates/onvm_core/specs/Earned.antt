@@ -1,0 +1,133 @@
+-- What each record tells, and that it is true: throttles and overflows are earned, drops and sends are the move's.
+use Rattle.std.specs.Prelude.{ℕ, zero, suc, ◌≡◌, ◌≢◌, ◌+◌, ◌*◌, ◌/◌, ◌^◌, ◌≤◌, ◌⊎◌, true, false, [], ◌∷◌, Some, None}
+use Rattle.onvm_base.specs.declared.ids.FnId.{FnId}
+use Rattle.onvm_base.specs.declared.ids.RingId.{RingId}
+use Rattle.onvm_base.specs.declared.ids.RingId.TheVariants.{Lane}
+use Rattle.onvm_base.specs.declared.moves.Move.TheVariants.{Leave, End}
+use Rattle.onvm_base.specs.declared.outcome.Outcome.{Outcome}
+use Rattle.onvm_base.specs.declared.outcome.Outcome.TheVariants.{Sent, Dropped, Throttled, RingFull, PoolEmpty}
+use Rattle.onvm_base.specs.declared.outcome.Record.{Record}
+use Rattle.onvm_base.specs.declared.outcome.Why.{Why}
+use Rattle.onvm_base.specs.Moves.{enter}
+use Rattle.onvm_core.specs.declared.entry.Entry.{Entry}
+use Rattle.onvm_core.specs.declared.layout.Word.TheVariants.{Pool as PoolWord, Cell, Post as PostWord}
+use Rattle.onvm_core.specs.declared.parcel.Crumb.{Crumb}
+use Rattle.onvm_core.specs.declared.parcel.Parcel.{Parcel}
+use Rattle.onvm_core.specs.declared.step.Act.{Act}
+use Rattle.onvm_core.specs.declared.step.Act.TheVariants.{Give, Full, Look, Post}
+use Rattle.onvm_core.specs.History.{History}
+use Rattle.onvm_core.specs.Words.{value_of}
+use Rattle.onvm_core.specs.Logs.{Setting, Log, log_of, last_crumb}
+use Rattle.onvm_core.specs.Receiving.{IsHeld}
+use Rattle.onvm_core.specs.Sending.{IsNext}
+use Rattle.onvm_core.specs.Marks.{Marks, Pass, Ages, IsPaid, finds, has_bit, last_post, standing}
+use Rattle.onvm_core.specs.Marks.Mark.{Passed, Posted}
+
+-- Throttles
+
+-- the function's mark is raised and not cleared: of the run of last posts that have its bit, the pass of the first found
+-- high and low, and each pass from that one on found low
+pub data IsRaised (f : ℕ) : Marks → Type 0 where
+  -- the first post of the run, and its pass
+  ByPost : (value : ℕ) (pass : Pass) (before : Marks) → has_bit value f ≡ true → has_bit (last_post before) f ≡ false
+      → finds true f pass ≡ true → finds false f pass ≡ true → IsRaised f (Posted value ∷ Passed pass ∷ before)
+  ByAnotherPost : (value : ℕ) (before : Marks) → has_bit value f ≡ true → IsRaised f before → IsRaised f (Posted value ∷ before)
+  ByPass : (pass : Pass) (before : Marks) → finds false f pass ≡ true → IsRaised f before → IsRaised f (Passed pass ∷ before)
+
+-- the same but for a pass that the feeder is still in: its looks aren't in the marks, or they are and its post is due
+abbrev pub IsRaisedUpToNow : Ages → ℕ → Marks → Type 0
+IsRaisedUpToNow aged f marks =
+    IsRaised f marks ⊎ ((pass : Pass) × (before : Marks) × (marks ≡ Passed pass ∷ before) × (¬ IsPaid aged marks) × IsRaised f before)
+
+-- a frame that a look recorded as throttled after these steps: the feeder's word had this post, with the bit of this
+-- function, the lowest of the frame's chain, and the function's mark was raised and not cleared
+pub record IsEarnedThrottle (setting : Setting) (aged : ℕ → Ages) (past : History) (e : Entry) (told : Record) (feeder post function : ℕ) : Type 0 where
+  pub seen : ℕ
+  pub shown : value_of setting.layout past (PostWord feeder) ≡ seen
+  pub number : seen / 2 ^ 32 ≡ post
+  pub held : IsHeld setting e feeder seen told
+  pub names : held.function ≡ function
+  pub raised : IsRaisedUpToNow (aged feeder) function (standing setting feeder (log_of feeder past)).marks
+
+-- a mark is cleared by the pass that doesn't find low: where the last post has the bit, a post without it follows at once
+abbrev pub Clears : ℕ → Marks → Type 0
+Clears f [] = Unit {0}
+Clears f (Posted value ∷ []) = Unit {0}
+Clears f (Passed pass ∷ []) = Unit {0}
+Clears f (Posted value ∷ Posted other ∷ before) = Clears f (Posted other ∷ before)
+Clears f (Posted value ∷ Passed pass ∷ before) =
+    (has_bit (last_post before) f ≡ true → finds false f pass ≡ false → has_bit value f ≡ false) × Clears f (Passed pass ∷ before)
+Clears f (Passed later ∷ Posted value ∷ before) = Clears f (Posted value ∷ before)
+Clears f (Passed later ∷ Passed pass ∷ before) =
+    (has_bit (last_post before) f ≡ true → finds false f pass ≡ true) × Clears f (Passed pass ∷ before)
+
+-- The same in the log: a pass is made without a break, and the post that clears a mark is the very next act
+
+-- the newest pass didn't find low, though the last post has the bit
+abbrev pub IsDue : ℕ → Marks → Type 0
+IsDue f [] = ⊥
+IsDue f (Posted value ∷ before) = ⊥
+IsDue f (Passed pass ∷ before) = (has_bit (last_post before) f ≡ true) × (finds false f pass ≡ false)
+
+abbrev pub IsPostWithout : ℕ → Act → Type 0
+IsPostWithout f (Post word value) = has_bit value f ≡ false
+IsPostWithout f _ = ⊥
+
+abbrev pub IsLaneLook : Act → Type 0
+IsLaneLook (Look (Cell (Lane f p) at) seen told) = Unit {0}
+IsLaneLook _ = ⊥
+
+abbrev pub ClearsAtOnce : Setting → (feeder function : ℕ) → Log → Type 0
+ClearsAtOnce setting feeder f [] = Unit {0}
+ClearsAtOnce setting feeder f (act ∷ before) =
+    ((standing setting feeder before).left ≢ [] → IsLaneLook act)
+    × (IsDue f (standing setting feeder before).marks → IsPostWithout f act)
+    × ClearsAtOnce setting feeder f before
+
+-- Overflows
+
+-- the log ends with looks at so many first words of the port's part, in order, next to one another, each of value 0
+abbrev pub EndsWithLooks : (port count : ℕ) → Log → Type 0
+EndsWithLooks port zero log = Unit {0}
+EndsWithLooks port (suc k) [] = ⊥
+EndsWithLooks port (suc k) (act ∷ before) = (act ≡ Look (PoolWord (record { 0 = port }) k) 0 None) × EndsWithLooks port k before
+
+-- no buffer was free: the recording look is at the last word of the part, and with the looks before it each word was 0
+pub record IsEarnedEmpty (setting : Setting) (role : ℕ) (log : Log) (act : Act) : Type 0 where
+  pub index : ℕ
+  pub told : Record
+  pub look : act ≡ Look (PoolWord (record { 0 = role }) index) 0 (Some told)
+  pub last : setting.layout.buffers ≤ 64 * (index + 1)
+  pub earlier : EndsWithLooks role index log
+
+-- the ring was full: the role found the lane full directly before it gave the buffer back
+pub record IsEarnedFull (log : Log) (ring : RingId) : Type 0 where
+  pub function : FnId
+  pub feeder : ℕ
+  pub lane : ring ≡ Lane function feeder
+  pub before : Log
+  pub full : log ≡ Full ring ∷ before
+
+-- Drops and sends
+
+-- the last crumb is of this function, and its verdict ends the way for this cause
+pub record IsDropped (setting : Setting) (parcel : Parcel) (function : FnId) (why : Why) : Type 0 where
+  pub crumb : Crumb
+  pub last : last_crumb parcel.trail ≡ Some crumb
+  pub by : crumb.function ≡ function
+  pub ends : IsNext setting parcel (End why)
+
+-- the frame leaves by this port from the entry, without a crumb, or by the verdict of its last crumb
+abbrev pub IsSent : Setting → Parcel → ℕ → Type 0
+IsSent setting parcel q =
+    ((parcel.trail ≡ []) × (enter setting.plan parcel.chain parcel.hash ≡ Leave q)) ⊎ IsNext setting parcel (Leave q)
+
+-- Which act records what: a look throttles and an empty pool, a give all else
+
+abbrev pub MayRecord : Act → Outcome → Type 0
+MayRecord (Look word seen told) (Throttled feeder post function) = Unit {0}
+MayRecord (Look word seen told) PoolEmpty = Unit {0}
+MayRecord (Give b outcome parcel) (Sent q) = Unit {0}
+MayRecord (Give b outcome parcel) (Dropped function why) = Unit {0}
+MayRecord (Give b outcome parcel) (RingFull ring) = Unit {0}
+MayRecord _ _ = ⊥

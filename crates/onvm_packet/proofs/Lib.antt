@@ -1,0 +1,11 @@
+pub mod Hashing
+pub mod Header
+pub mod HeadsKept
+pub mod Kept
+pub mod Macs
+pub mod Ones
+pub mod Tags
+pub mod TtlChecksum
+pub mod TtlHeads
+pub mod Within
+pub mod Writing

@@ -1,0 +1,9 @@
+use Rattle.std.proofs.Common.{◌∙◌, ap, refl, rules}
+use Rattle.onvm_packet.specs.Edits.{written}
+use Rattle.onvm_packet.proofs.Writing.{written-written}
+use Rattle.onvm_packet.proofs.edits.set_macs.Goals as goal
+
+pub returns : goal.returns
+returns c =
+    c.write-2.ensures ∙ ap (written 6 c.args.source) c.write.ensures
+    ∙ written-written c.args.target c.args.source c.args.packet.now 6 12 (search rules) (search rules) refl

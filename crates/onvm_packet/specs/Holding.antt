@@ -1,0 +1,63 @@
+-- Which frames the tests of a rule hold for.
+use Rattle.std.specs.Prelude.{ℕ, ◌-◌, ◌/◌, ◌^◌, ◌==◌, nat_le, Bool, true, false, ◌&&◌, Option, Some, None}
+use Rattle.onvm_base.specs.declared.ids.PortId.{PortId}
+use Rattle.onvm_base.specs.declared.rules.Prefix.{Prefix}
+use Rattle.onvm_base.specs.declared.rules.Prefix.TheVariants as prefix
+use Rattle.onvm_base.specs.declared.rules.Tests.{Tests}
+use Rattle.onvm_packet.specs.declared.heads.Heads.{Heads}
+use Rattle.onvm_packet.specs.declared.heads.Net.{Net}
+use Rattle.onvm_packet.specs.declared.heads.Net.TheVariants as net
+
+-- a test that isn't there holds
+abbrev pub asked : {A : Type 0} → Option A → (A → Bool) → Bool
+asked None test = true
+asked (Some wanted) test = test wanted
+
+-- a part that the frame hasn't is none that is wanted
+abbrev pub is_part : Option ℕ → ℕ → Bool
+is_part None wanted = false
+is_part (Some part) wanted = part == wanted
+
+-- two addresses of so many bits have the same first bits
+abbrev pub same_front : ℕ → ℕ → ℕ → ℕ → Bool
+same_front bits length a b = (a / 2 ^ (bits - length)) == (b / 2 ^ (bits - length))
+
+-- a prefix of one version has no address of the other
+abbrev pub has_source : Net → Prefix → Bool
+has_source (net.V4 at source target protocol ttl) (prefix.V4 address length) = same_front 32 length source address
+has_source (net.V6 at source target next hops) (prefix.V6 address length) = same_front 128 length source address
+has_source head wanted = false
+
+abbrev pub has_target : Net → Prefix → Bool
+has_target (net.V4 at source target protocol ttl) (prefix.V4 address length) = same_front 32 length target address
+has_target (net.V6 at source target next hops) (prefix.V6 address length) = same_front 128 length target address
+has_target head wanted = false
+
+abbrev pub protocol_of : Net → Option ℕ
+protocol_of net.None = None
+protocol_of (net.V4 at source target protocol ttl) = Some protocol
+protocol_of (net.V6 at source target next hops) = Some next
+
+-- the ends of a range are in it
+abbrev pub is_from : ℕ × ℕ → ℕ → Bool
+is_from range n = nat_le range.0 n && nat_le n range.1
+
+abbrev pub has_source_port : Option (ℕ × ℕ) → ℕ × ℕ → Bool
+has_source_port None range = false
+has_source_port (Some ports) range = is_from range ports.0
+
+abbrev pub has_target_port : Option (ℕ × ℕ) → ℕ × ℕ → Bool
+has_target_port None range = false
+has_target_port (Some ports) range = is_from range ports.1
+
+-- all tests hold for a frame with these heads that a port received
+abbrev pub do_hold : Tests → PortId → Heads → Bool
+do_hold tests port heads =
+    asked tests.port (λ wanted. port.0 == wanted)
+    && asked tests.vlan (is_part heads.vlan)
+    && asked tests.ethertype (is_part heads.ethertype)
+    && asked tests.src (has_source heads.net)
+    && asked tests.dst (has_target heads.net)
+    && asked tests.protocol (is_part (protocol_of heads.net))
+    && asked tests.src_ports (has_source_port heads.ports)
+    && asked tests.dst_ports (has_target_port heads.ports)

@@ -1,0 +1,7 @@
+pub mod Bytes
+pub mod Checksum
+pub mod Edits
+pub mod Flow
+pub mod Heads
+pub mod Holding
+pub mod Within

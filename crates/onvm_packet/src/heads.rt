@@ -1,0 +1,211 @@
+//! The heads of a frame.
+ghost use Rattle.std.specs.Prelude.{◌≡◌, ◌+◌, ◌<◌, ◌≤◌, length, IsTrue};
+ghost use Rattle.onvm_packet.specs.Bytes.{number};
+ghost use Rattle.onvm_packet.specs.Heads.{heads_of, is_tagged, type_at, net_of, net_at, ports_of, is_ipv4, is_ipv6, ipv4_at, ipv6_at, is_fragment, ports_at};
+
+use crate::words::{u8_at, u16_at, u32_at, u128_at};
+
+// Where the type stands.
+const TYPE_AT: usize = 12;
+
+// Where the network head begins.
+const ETHERNET_LEN: usize = 14;
+
+// Where the tag stands, if there is one.
+const TAG_AT: usize = 14;
+
+// Where the type stands behind a tag.
+const TAGGED_TYPE_AT: usize = 16;
+
+// Where the network head begins behind a tag.
+const TAGGED_LEN: usize = 18;
+
+const TAG_TYPE: u16 = 0x8100;
+
+const IPV4_TYPE: u16 = 0x0800;
+
+const IPV6_TYPE: u16 = 0x86dd;
+
+const TCP: u8 = 6;
+
+const UDP: u8 = 17;
+
+/// What the heads of a frame say.
+#[derive(Clone, Copy, Debug, PartialEq, Eq)]
+pub struct Heads {
+    /// The VLAN of the outer tag.
+    pub vlan: Option<u16>,
+    /// The type, behind the outer tag if there is one.
+    pub ethertype: Option<u16>,
+    pub net: Net,
+    /// The source and the target port of TCP or UDP.
+    pub ports: Option<(u16, u16)>,
+}
+
+/// The network head, with its addresses as numbers.
+#[derive(Clone, Copy, Debug, PartialEq, Eq)]
+pub enum Net {
+    /// Neither IPv4 nor IPv6, or not a whole header of it.
+    None,
+    /// IPv4, whose header begins at byte `at` of the frame.
+    V4 {
+        at: u32,
+        source: u32,
+        target: u32,
+        protocol: u8,
+        ttl: u8,
+    },
+    /// IPv6, whose header begins at byte `at` of the frame.
+    V6 {
+        at: u32,
+        source: u128,
+        target: u128,
+        next: u8,
+        hops: u8,
+    },
+}
+
+/// Reads the heads of a frame.
+pub fn parse(bytes: &[u8]) -> Heads
+    ensures { result ≡ heads_of bytes.now }
+{
+    if bytes.len() < ETHERNET_LEN {
+        return Heads {
+            vlan: None,
+            ethertype: None,
+            net: Net::None,
+            ports: None,
+        };
+    }
+    if is_tagged(bytes) {
+        let vlan = u16_at(bytes, TAG_AT) % 4096;
+        read_heads(Some(vlan), TAGGED_TYPE_AT, bytes)
+    } else {
+        read_heads(None, TYPE_AT, bytes)
+    }
+}
+
+// Whether a tag, and a type behind it, follow the addresses.
+fn is_tagged(bytes: &[u8]) -> bool
+    requires { 14 ≤ length bytes.now }
+    ensures { result ≡ is_tagged bytes.now }
+{
+    u16_at(bytes, TYPE_AT) == TAG_TYPE && bytes.len() >= TAGGED_LEN
+}
+
+// The heads of a frame whose type stands at an offset.
+fn read_heads(vlan: Option<u16>, at: usize, bytes: &[u8]) -> Heads
+    requires place { at ≡ type_at bytes.now }
+    requires whole { at + 2 ≤ length bytes.now }
+    ensures { result ≡ record {
+      vlan = vlan;
+      ethertype = Some (number 2 (type_at bytes.now) bytes.now);
+      net = net_of bytes.now;
+      ports = ports_of (net_of bytes.now) bytes.now;
+    } }
+{
+    let ethertype = u16_at(bytes, at);
+    let (net, ports) = read_net(ethertype, at + 2, bytes);
+    Heads {
+        vlan,
+        ethertype: Some(ethertype),
+        net,
+        ports,
+    }
+}
+
+// The network head that begins at an offset, behind this type, and the ports behind it.
+fn read_net(ethertype: u16, at: usize, bytes: &[u8]) -> (Net, Option<(u16, u16)>)
+    requires { at < 100 }
+    ensures net { result.0 ≡ net_at ethertype at bytes.now }
+    ensures ports { result.1 ≡ ports_of (net_at ethertype at bytes.now) bytes.now }
+{
+    if ethertype == IPV4_TYPE && is_ipv4(at, bytes) {
+        read_ipv4(at, bytes)
+    } else if ethertype == IPV6_TYPE && is_ipv6(at, bytes) {
+        read_ipv6(at, bytes)
+    } else {
+        (Net::None, None)
+    }
+}
+
+// Whether a whole IPv4 header begins at an offset.
+fn is_ipv4(at: usize, bytes: &[u8]) -> bool
+    requires { at < 100 }
+    ensures { result ≡ is_ipv4 at bytes.now }
+{
+    if bytes.len() < at + 20 {
+        return false;
+    }
+    let words = bytes[at] % 16;
+    bytes[at] / 16 == 4 && words >= 5 && at + 4 * words as usize <= bytes.len()
+}
+
+fn read_ipv4(at: usize, bytes: &[u8]) -> (Net, Option<(u16, u16)>)
+    requires short { at < 100 }
+    requires whole { IsTrue (is_ipv4 at bytes.now) }
+    ensures net { result.0 ≡ ipv4_at at bytes.now }
+    ensures ports { result.1 ≡ ports_of (ipv4_at at bytes.now) bytes.now }
+{
+    let protocol = u8_at(bytes, at + 9);
+    let net = Net::V4 {
+        at: at as u32,
+        source: u32_at(bytes, at + 12),
+        target: u32_at(bytes, at + 16),
+        protocol,
+        ttl: u8_at(bytes, at + 8),
+    };
+    let words = bytes[at] % 16;
+    let ports = if is_fragment(at, bytes) {
+        None
+    } else {
+        read_ports(protocol, at + 4 * words as usize, bytes)
+    };
+    (net, ports)
+}
+
+// Whether the IPv4 header that begins at an offset is that of a fragment.
+fn is_fragment(at: usize, bytes: &[u8]) -> bool
+    requires short { at < 100 }
+    requires whole { at + 20 ≤ length bytes.now }
+    ensures { result ≡ is_fragment at bytes.now }
+{
+    u16_at(bytes, at + 6) % 16384 != 0
+}
+
+// Whether a whole IPv6 header begins at an offset.
+fn is_ipv6(at: usize, bytes: &[u8]) -> bool
+    requires { at < 100 }
+    ensures { result ≡ is_ipv6 at bytes.now }
+{
+    bytes.len() >= at + 40 && bytes[at] / 16 == 6
+}
+
+fn read_ipv6(at: usize, bytes: &[u8]) -> (Net, Option<(u16, u16)>)
+    requires short { at < 100 }
+    requires whole { at + 40 ≤ length bytes.now }
+    ensures net { result.0 ≡ ipv6_at at bytes.now }
+    ensures ports { result.1 ≡ ports_of (ipv6_at at bytes.now) bytes.now }
+{
+    let next = u8_at(bytes, at + 6);
+    let net = Net::V6 {
+        at: at as u32,
+        source: u128_at(bytes, at + 8),
+        target: u128_at(bytes, at + 24),
+        next,
+        hops: u8_at(bytes, at + 7),
+    };
+    (net, read_ports(next, at + 40, bytes))
+}
+
+// The ports that stand at an offset behind a head of this protocol.
+fn read_ports(protocol: u8, at: usize, bytes: &[u8]) -> Option<(u16, u16)>
+    requires { at < 1000 }
+    ensures { result ≡ ports_at protocol at bytes.now }
+{
+    if (protocol == TCP || protocol == UDP) && bytes.len() >= at + 4 {
+        Some((u16_at(bytes, at), u16_at(bytes, at + 2)))
+    } else {
+        None
+    }
+}

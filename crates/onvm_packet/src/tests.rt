@@ -1,0 +1,6 @@
+//! Frames that were spelled by hand or by another program.
+
+mod edits;
+mod frames;
+mod heads;
+mod holding;

@@ -1,0 +1,12 @@
+//! The chain that the rules of a chain file pick for a frame.
+//!
+//! A *rule* has tests and a chain. Rules are judged in file order, and the first whose tests hold
+//! for a frame picks its chain.
+#![tactic(auto)]
+
+pub mod laws;
+mod matching;
+#[cfg(test)]
+mod tests;
+
+pub use matching::first;
