@@ -1,5 +1,5 @@
 -- How long captures are that a port takes, and when one passes its limits.
-use Rattle.std.proofs.Common.{◌≡◌, ◌∙◌, sym, ap, subst, ◌⊎◌, inl, inr, ℕ, ◌+◌, ◌*◌, ◌<◌, List, [], ◌∷◌, ◌++◌, length, append_assoc, arith}
+use Rattle.std.proofs.Common.{◌≡◌, ◌∙◌, sym, ap, subst, ◌⊎◌, inl, inr, ℕ, ◌+◌, ◌*◌, ◌<◌, List, [], ◌∷◌, ◌++◌, length, Some, None, append_assoc, arith}
 use Rattle.std.proofs.lemmas.List.{length-append}
 use Rattle.std.proofs.lemmas.List.Sums.{sum_by-cons}
 use Rattle.onvm_base.specs.declared.frame.Frame.{Frame}
@@ -44,11 +44,17 @@ early_at : (old : Reading) → EndsInHeader old ⊎ AtRecord old (λ s at rest. 
 early_at old (inl ends) = omega (arith, ends.1)
 early_at old (inr at) = short_at old at
 
+inside_at : (old : Reading) → EndsInHeader old ⊎ AtRecord old (λ s at rest. EndsInRecord s rest)
+    → (s : Spelling) → old.spelling ≡ Some s → length old.rest < 262160
+inside_at old (inl (none, short)) s known = let clash : None ≡ Some s = sym none ∙ known in cc
+inside_at old (inr (inl (none, s', header, rest, text, is, ends))) s known = let clash : None ≡ Some s = sym none ∙ known in cc
+inside_at old (inr (inr (s', known', ends))) s known = short_record s' old.rest ends
+
 -- where more is wanted, little is kept
 pub EndsEarly-more : (old new : Reading) → Pulls old pull.More new → EndsEarly new
 EndsEarly-more old new pulls =
     let P : Reading → Type 0 = EndsEarly in
-    subst P (sym pulls.0) (record { unfinished = pulls.1; short = early_at old pulls.2 })
+    subst P (sym pulls.0) (record { unfinished = pulls.1; short = early_at old pulls.2; inside = inside_at old pulls.2 })
 
 -- each frame uses bytes of the rest
 used_at : (frame : Frame) (old new : Reading) → AtRecord old (GivesFrame frame new) → length new.rest < length old.rest

@@ -7,7 +7,7 @@ use Rattle.onvm_host.specs.Deeds.{Amounts, Deed, Opened, Said, Shut, faults_of, 
 use Rattle.onvm_host.specs.Files.{Entries}
 use Rattle.onvm_host.proofs.Deeds.{faults_of-append}
 use Rattle.onvm_top.specs.Fault.{status_of}
-use Rattle.onvm_top.specs.Moved.{IsReading, Reads, SaysAll, SaysPart}
+use Rattle.onvm_top.specs.Moved.{IsReading, Reads, SaysOnce}
 use Rattle.onvm_top.specs.Stops.{IsStopped}
 use Rattle.onvm_top.specs.Story.{Adds, AreSays, CannotRead, CannotReadChain, CannotWrite, IsCutShort, IsRead, IsStory, Then}
 use Rattle.onvm_top.specs.declared.fault.Fault.{Fault}
@@ -167,7 +167,7 @@ ok_or_err (Err fault) P Q p q = inr q
 -- the calls up to where a run was stopped, and then its line
 pub Adds-line : (words : List (List ℕ)) (told told_now : Option Entries) (fault : Fault) (before now : List Deed) (old new : Option (List ℕ)) (line : List ℕ)
     (deeds : List Deed) → IsStopped words told told_now deeds fault
-    → SaysAll old new (before ++ deeds) now line ⊎ SaysPart old new (before ++ deeds) now line
+    → SaysOnce old new (before ++ deeds) now line
     → Adds before now (IsStory words (status_of fault))
 Adds-line words told told_now fault before now old new line deeds stopped (inl all) = (
   deeds ++ map Said all.0,
@@ -182,7 +182,7 @@ Adds-line words told told_now fault before now old new line deeds stopped (inr p
 
 -- and where the chain file was another and Read is told, the calls end at it
 pub Adds-other_chain : (before now : List Deed) (old new : Option (List ℕ)) (line name : List ℕ) (deeds : List Deed) → CannotReadChain name deeds
-    → SaysAll old new (before ++ deeds) now line ⊎ SaysPart old new (before ++ deeds) now line
+    → SaysOnce old new (before ++ deeds) now line
     → Adds before now (Then (CannotReadChain name) AreSays)
 Adds-other_chain before now old new line name deeds failed (inl all) = (
   deeds ++ map Said all.0,
@@ -203,10 +203,10 @@ faults_of-Adds before now P faulty adds =
 
 -- what was said, told from before the calls that came first
 pub says_line : (old between new : Option (List ℕ)) (before at now deeds : List Deed) (line piece : List ℕ) → between ≡ old
-    → at ≡ before ++ deeds → piece ≡ line → SaysAll between new at now piece ⊎ SaysPart between new at now piece
-    → SaysAll old new (before ++ deeds) now line ⊎ SaysPart old new (before ++ deeds) now line
+    → at ≡ before ++ deeds → piece ≡ line → SaysOnce between new at now piece
+    → SaysOnce old new (before ++ deeds) now line
 says_line old between new before at now deeds line piece same moved is said =
-    let Old : Option (List ℕ) → Type 0 = λ o. SaysAll o new at now piece ⊎ SaysPart o new at now piece in
-    let At : List Deed → Type 0 = λ d. SaysAll old new d now piece ⊎ SaysPart old new d now piece in
-    let Line : List ℕ → Type 0 = λ t. SaysAll old new (before ++ deeds) now t ⊎ SaysPart old new (before ++ deeds) now t in
+    let Old : Option (List ℕ) → Type 0 = λ o. SaysOnce o new at now piece in
+    let At : List Deed → Type 0 = λ d. SaysOnce old new d now piece in
+    let Line : List ℕ → Type 0 = λ t. SaysOnce old new (before ++ deeds) now t in
     subst Line is (subst At moved (subst Old same said))

@@ -52,7 +52,8 @@ IsBadCapture name files = ((fault : PcapFault) × IsFaultyCapture name files fau
 -- the file of this name is a front of the capture text, and no other changed
 abbrev pub HoldsFront : List ℕ → List Frame → Entries → Option Entries → Type 0
 HoldsFront name frames files now =
-    (entries : Entries) × (front rest : List ℕ) × (now ≡ Some entries) × (emit frames ≡ front ++ rest) × OnlyChanges name front files entries
+    (entries : Entries) × (front rest : List ℕ) × (now ≡ Some entries) × (emit frames ≡ front ++ rest)
+    × OnlyChanges name front files entries
 
 -- status 3: the chain file is another than the one that is read
 abbrev pub HasOtherChain : List (List ℕ) → Option Entries → Type 0

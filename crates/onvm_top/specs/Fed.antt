@@ -3,11 +3,14 @@ use Rattle.std.specs.Prelude.{◌≡◌, ℕ, ◌<◌, true, false, Option, Some
 use Rattle.std.specs.Io.KnownBytes.{Consumes, IsAtEnd}
 use Rattle.onvm_host.specs.Deeds.{Amounts}
 use Rattle.pcap_in.specs.Reading.{Reading}
+use Rattle.pcap_in.specs.declared.spelling.Spelling.{Spelling}
 
--- more bytes may come, and what is kept is less than a header and a record
+-- more bytes may come, and what is kept is less than a record, and as long as the header is kept less
+-- than both
 pub record EndsEarly (reading : Reading) : Type 0 where
   pub unfinished : reading.finished ≡ false
   pub short : length reading.rest < 262184
+  pub inside : (spelling : Spelling) → reading.spelling ≡ Some spelling → length reading.rest < 262160
 
 -- the reader was fed what one take gave: the next bytes of a source, or none at the source's end
 pub record Feeds (left left' : Option (List ℕ)) (takes takes' : Amounts) (old new : Reading) : Type 0 where

@@ -16,6 +16,6 @@ pub record IsWithinLimits (frames : List Frame) : Type 0 where
 abbrev pub PassesLimit : List ℕ → Type 0
 PassesLimit text = (used rest : List ℕ) × (frames : List Frame) × (text ≡ used ++ rest) × IsCapture used frames × ¬ (IsWithinLimits frames)
 
--- the bytes of the largest capture that a port takes, and of a header and a record more
+-- the bytes of a header, of the frames that a port takes with their heads, and of one record more
 abbrev pub capture_limit : ℕ
-capture_limit = (24 + 16 * MAX_PORT_FRAMES + MAX_PORT_BYTES) + (24 + 16 + MAX_FRAME_BYTES)
+capture_limit = 24 + 16 * (MAX_PORT_FRAMES + 1) + MAX_PORT_BYTES + MAX_FRAME_BYTES

@@ -1,5 +1,5 @@
 -- What takes, puts and says moved together, and where they ended.
-use Rattle.std.specs.Prelude.{◌≡◌, ℕ, ◌+◌, ◌<◌, List, [], ◌∷◌, ◌++◌, length, map, Option, Some, None}
+use Rattle.std.specs.Prelude.{◌≡◌, ◌⊎◌, ℕ, ◌+◌, ◌<◌, List, [], ◌∷◌, ◌++◌, length, map, Option, Some, None}
 use Rattle.std.specs.Io.KnownBytes.{Appends}
 use Rattle.onvm_host.specs.Deeds.{Amounts, Deed, Said}
 
@@ -55,3 +55,7 @@ SaysAll old new before now whole = (says : Amounts) × (now ≡ before ++ map Sa
 
 abbrev pub SaysPart : Option (List ℕ) → Option (List ℕ) → List Deed → List Deed → List ℕ → Type 0
 SaysPart old new before now whole = (says : Amounts) × (now ≡ before ++ map Said says) × AppendsPart old new says whole
+
+-- a host said all of these bytes, or as much of them as it said before one of the calls failed
+abbrev pub SaysOnce : Option (List ℕ) → Option (List ℕ) → List Deed → List Deed → List ℕ → Type 0
+SaysOnce old new before now whole = SaysAll old new before now whole ⊎ SaysPart old new before now whole

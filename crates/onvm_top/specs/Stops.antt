@@ -28,7 +28,8 @@ only_port = record { 0 = 0 }
 -- at the capture of this name
 abbrev pub StopsAtCapture : List ℕ → Option Entries → List Deed → Fault → Type 0
 StopsAtCapture name told deeds fault =
-    ((cause : PcapFault) × (fault ≡ Broken only_port cause) × ReadsCapture name deeds × OnTold told (λ files. IsFaultyCapture name files cause))
+    ((cause : PcapFault) × (fault ≡ Broken only_port cause) × ReadsCapture name deeds
+    × OnTold told (λ files. IsFaultyCapture name files cause))
     ⊎ ((fault ≡ TooMany only_port) × ReadsCapture name deeds × OnTold told (IsLargeCapture name))
     ⊎ ((fault ≡ ReadCapture only_port) × CannotReadCapture name deeds)
     ⊎ ((fault ≡ Memory) × ((deeds ≡ []) ⊎ ReadsCapture name deeds))
@@ -37,7 +38,8 @@ StopsAtCapture name told deeds fault =
 abbrev pub StopsAtOutput : List ℕ → List Frame → Option Entries → Option Entries → List Deed → Fault → Type 0
 StopsAtOutput name frames told told_now deeds fault =
     ((fault ≡ Write) × (deeds ≡ CreateFailed name ∷ []) × (told_now ≡ told))
-    ⊎ ((fault ≡ Write) × CannotFinish (length (emit frames)) name deeds × OnTold told (λ files. HoldsFront name frames files told_now))
+    ⊎ ((fault ≡ Write) × CannotFinish (length (emit frames)) name deeds
+    × OnTold told (λ files. HoldsFront name frames files told_now))
     ⊎ ((fault ≡ Memory) × (deeds ≡ []) × (told_now ≡ told))
 
 -- at the words, the chain file, the capture or the output. Before the output no file changes
@@ -50,4 +52,5 @@ IsStopped words told told_now deeds fault =
     × Then (ReadsChain command.chain) (λ calls. StopsAtCapture command.capture told calls fault) deeds)
     ⊎ ((command : Command) × IsCommand words command × OnTold told (IsChain command.chain)
     × (frames : List Frame) × IsWithinLimits frames × OnTold told (λ files. IsGoodCapture command.capture files frames)
-    × Then (ReadsChain command.chain) (Then (ReadsCapture command.capture) (λ calls. StopsAtOutput command.out frames told told_now calls fault)) deeds)
+    × Then (ReadsChain command.chain) (Then (ReadsCapture command.capture)
+    (λ calls. StopsAtOutput command.out frames told told_now calls fault)) deeds)

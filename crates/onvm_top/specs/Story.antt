@@ -20,7 +20,8 @@ Then P Q deeds = (first rest : List Deed) × (deeds ≡ first ++ rest) × P firs
 
 -- a file was opened, read by takes of which none failed, and shut
 abbrev pub IsRead : ℕ → List ℕ → List Deed → Type 0
-IsRead limit name deeds = (takes : Amounts) × (last : ℕ) × (deeds ≡ Opened name ∷ Shut name takes ∷ []) × IsReading limit (Some last) takes
+IsRead limit name deeds =
+    (takes : Amounts) × (last : ℕ) × (deeds ≡ Opened name ∷ Shut name takes ∷ []) × IsReading limit (Some last) takes
 
 -- it could not be opened, or it was shut after a failed take, behind which there was none
 abbrev pub CannotRead : ℕ → List ℕ → List Deed → Type 0
@@ -30,7 +31,8 @@ CannotRead limit name deeds =
 
 -- so many bytes were to be moved, but a call failed before, behind which there was none
 abbrev pub IsCutShort : ℕ → Amounts → Type 0
-IsCutShort bytes amounts = (earlier : Amounts) × (fewer : ℕ) × (amounts ≡ earlier ++ None ∷ []) × Moved fewer earlier × (fewer < bytes)
+IsCutShort bytes amounts =
+    (earlier : Amounts) × (fewer : ℕ) × (amounts ≡ earlier ++ None ∷ []) × Moved fewer earlier × (fewer < bytes)
 
 -- a file was created, so many bytes were put, and it was kept
 abbrev pub IsWritten : ℕ → List ℕ → List Deed → Type 0
@@ -40,7 +42,8 @@ IsWritten bytes name deeds = (puts : Amounts) × (deeds ≡ Created name ∷ Kep
 abbrev pub CannotFinish : ℕ → List ℕ → List Deed → Type 0
 CannotFinish bytes name deeds =
     ((puts : Amounts) × (deeds ≡ Created name ∷ Kept name puts ∷ []) × IsCutShort bytes puts)
-    ⊎ ((puts : Amounts) × (deeds ≡ Created name ∷ KeepFailed name puts ∷ []) × (Moved bytes puts ⊎ IsCutShort bytes puts))
+    ⊎ ((puts : Amounts) × (deeds ≡ Created name ∷ KeepFailed name puts ∷ [])
+    × (Moved bytes puts ⊎ IsCutShort bytes puts))
 
 -- or it could not be created
 abbrev pub CannotWrite : ℕ → List ℕ → List Deed → Type 0
@@ -74,7 +77,8 @@ AreSays deeds = (says : Amounts) × (deeds ≡ map Said says)
 -- the calls of a run of a command, by the status that it ends with
 abbrev pub IsStoryOf : Command → Status → List Deed → Type 0
 IsStoryOf command Done deeds =
-    (frames : List Frame) × IsWithinLimits frames × Then (ReadsChain command.chain) (Then (ReadsCapture command.capture) (WritesFrames frames command.out)) deeds
+    (frames : List Frame) × IsWithinLimits frames
+    × Then (ReadsChain command.chain) (Then (ReadsCapture command.capture) (WritesFrames frames command.out)) deeds
 IsStoryOf command Words deeds = ⊥
 IsStoryOf command Plan deeds = Then (ReadsChain command.chain) AreSays deeds
 IsStoryOf command Capture deeds = Then (ReadsChain command.chain) (Then (ReadsCapture command.capture) AreSays) deeds
@@ -82,7 +86,9 @@ IsStoryOf command Read deeds =
     Then (CannotReadChain command.chain) AreSays deeds
     ⊎ Then (ReadsChain command.chain) (Then (CannotReadCapture command.capture) AreSays) deeds
 IsStoryOf command Write deeds =
-    (frames : List Frame) × IsWithinLimits frames × Then (ReadsChain command.chain) (Then (ReadsCapture command.capture) (Then (CannotWriteFrames frames command.out) AreSays)) deeds
+    (frames : List Frame) × IsWithinLimits frames
+    × Then (ReadsChain command.chain) (Then (ReadsCapture command.capture)
+    (Then (CannotWriteFrames frames command.out) AreSays)) deeds
 IsStoryOf command Memory deeds =
     AreSays deeds
     ⊎ Then (ReadsChain command.chain) AreSays deeds

@@ -65,7 +65,8 @@ fn feed_piece<S: Source>(
     requires fits { reader.old.place + length reader.old.rest + length piece.old < 2 ^ 64 }
     ensures ok { OnOk result (Feeds (S.left source.old) (S.left source.new)
         (S.takes source.old) (S.takes source.new) reader.old reader.new) }
-    ensures read { result ≡ Err CaptureFault.Read → S.takes source.new ≡ S.takes source.old ++ None ∷ [] }
+    ensures read { result ≡ Err CaptureFault.Read
+        → S.takes source.new ≡ S.takes source.old ++ None ∷ [] }
     ensures memory { result ≡ Err CaptureFault.Memory
         → (count : ℕ) × (S.takes source.new ≡ S.takes source.old ++ Some count ∷ []) }
     ensures only { IfErr result (λ fault.

@@ -10,7 +10,7 @@ ghost use Rattle.onvm_top.specs.Command.{MayReplay};
 ghost use Rattle.onvm_top.specs.Fault.{line_of, status_of};
 ghost use Rattle.onvm_top.specs.Known.{OnTold};
 ghost use Rattle.onvm_top.specs.Limits.{IsWithinLimits};
-ghost use Rattle.onvm_top.specs.Moved.{SaysAll, SaysPart};
+ghost use Rattle.onvm_top.specs.Moved.{SaysOnce};
 ghost use Rattle.onvm_top.specs.Replay.{IsDone, OnlyChanges};
 ghost use Rattle.onvm_top.specs.Stops.{IsStopped, StopsAtCapture, StopsAtChain, StopsAtOutput};
 ghost use Rattle.onvm_top.specs.Story.{Adds, AreSays, CannotReadChain, IsStory, IsStoryOf, ReadsCapture, ReadsChain, Then, WritesFrames};
@@ -56,15 +56,17 @@ pub fn run<R: AllocGlobal, H: Host, C: Clock, G: Gate>(
 
     // The other way round.
     ensures no_command { IsNoCommand (map string_bytes words.now) → result ≡ Status.Words }
-    ensures other_chain { OnCommand (map string_bytes words.now) (H.files host.old) (λ command files.
-        IsOtherChain command.chain files → IsUnlessStopped Status.Plan result
+    ensures other_chain { OnCommand (map string_bytes words.now) (H.files host.old)
+        (λ command files. IsOtherChain command.chain files
+        → IsUnlessStopped Status.Plan result
         × (result ≡ Status.Read → Adds (H.deeds host.old) (H.deeds host.new)
         (Then (CannotReadChain command.chain) AreSays))) }
-    ensures bad_capture { OnCommand (map string_bytes words.now) (H.files host.old) (λ command files.
-        IsChain command.chain files → IsBadCapture command.capture files
+    ensures bad_capture { OnCommand (map string_bytes words.now) (H.files host.old)
+        (λ command files. IsChain command.chain files → IsBadCapture command.capture files
         → IsUnlessStopped Status.Capture result) }
-    ensures complete { OnCommand (map string_bytes words.now) (H.files host.old) (λ command files.
-        IsChain command.chain files → (frames : List Frame) → IsGoodCapture command.capture files frames
+    ensures complete { OnCommand (map string_bytes words.now) (H.files host.old)
+        (λ command files. IsChain command.chain files
+        → (frames : List Frame) → IsGoodCapture command.capture files frames
         → ¬ (faults_of (H.deeds host.old) < faults_of (H.deeds host.new))
         → (result ≡ Status.Done) ⊎ (result ≡ Status.Memory)) }
 
@@ -72,10 +74,11 @@ pub fn run<R: AllocGlobal, H: Host, C: Clock, G: Gate>(
     ensures none_made { result ≢ Status.Done → result ≢ Status.Write
         → H.files host.new ≡ H.files host.old }
     ensures quiet { result ≡ Status.Done → H.said host.new ≡ H.said host.old }
-    ensures line { result ≢ Status.Done → (fault : Fault) × (deeds : List Deed) × (status_of fault ≡ result)
+    ensures line { result ≢ Status.Done
+        → (fault : Fault) × (deeds : List Deed) × (status_of fault ≡ result)
         × IsStopped (map string_bytes words.now) (H.files host.old) (H.files host.new) deeds fault
-        × (SaysAll (H.said host.old) (H.said host.new) (H.deeds host.old ++ deeds) (H.deeds host.new) (line_of fault)
-        ⊎ SaysPart (H.said host.old) (H.said host.new) (H.deeds host.old ++ deeds) (H.deeds host.new) (line_of fault)) }
+        × SaysOnce (H.said host.old) (H.said host.new)
+        (H.deeds host.old ++ deeds) (H.deeds host.new) (line_of fault) }
 {
     match replay(rt.alloc(), words, host) {
         Ok(()) => Status::Done,
@@ -95,7 +98,8 @@ fn replay<H: Host>(alloc: Global, words: &[String], host: &mut H) -> Result<(), 
     ensures story { OnOk result (Adds (H.deeds host.old) (H.deeds host.new)
         (IsStory (map string_bytes words.now) Status.Done)) }
     ensures stopped { IfErr result (λ fault. Adds (H.deeds host.old) (H.deeds host.new)
-        (λ deeds. IsStopped (map string_bytes words.now) (H.files host.old) (H.files host.new) deeds fault)) }
+        (λ deeds. IsStopped (map string_bytes words.now)
+        (H.files host.old) (H.files host.new) deeds fault)) }
     ensures said { H.said host.new ≡ H.said host.old }
 {
     let Some(command) = command_of(words) else {
@@ -139,7 +143,8 @@ fn read_capture<H: Host>(alloc: Global, host: &mut H, name: &str) -> Result<Fram
     ensures ok { IfOk result (λ frames.
         OnTold (H.files host.old) (λ files. IsGoodCapture name.now files frames)) }
     ensures within { IfOk result (λ frames. IsWithinLimits frames) }
-    ensures read { OnOk result (Adds (H.deeds host.old) (H.deeds host.new) (ReadsCapture name.now)) }
+    ensures read { OnOk result
+        (Adds (H.deeds host.old) (H.deeds host.new) (ReadsCapture name.now)) }
     ensures err { IfErr result (λ fault. Adds (H.deeds host.old) (H.deeds host.new)
         (λ deeds. StopsAtCapture name.now (H.files host.old) deeds fault)) }
     ensures files { H.files host.new ≡ H.files host.old }
@@ -172,7 +177,8 @@ fn write_output<H: Host>(host: &mut H, name: &str, frames: &Frames) -> Result<()
     ensures written { OnOk result
         (Adds (H.deeds host.old) (H.deeds host.new) (WritesFrames frames.now name.now)) }
     ensures err { IfErr result (λ fault. Adds (H.deeds host.old) (H.deeds host.new)
-        (λ deeds. StopsAtOutput name.now frames.now (H.files host.old) (H.files host.new) deeds fault)) }
+        (λ deeds. StopsAtOutput name.now frames.now
+        (H.files host.old) (H.files host.new) deeds fault)) }
     ensures said { H.said host.new ≡ H.said host.old }
 {
     let mut output = match host.create_output(name) {

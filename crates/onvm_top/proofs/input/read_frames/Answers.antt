@@ -19,6 +19,7 @@ pieces-init g c = record {
   within = search rules;
   unfinished = search rules;
   short = search rules;
+  inside = search rules;
   named = search rules;
   read = ([], search rules, search rules, MovedSince-start _);
 }
@@ -68,6 +69,7 @@ pieces-preserved g c =
       within = c.in_ok-pull_frames.ensures.within;
       unfinished = early.unfinished;
       short = early.short;
+      inside = early.inside;
       named = search rules;
       read = (
         fed,
@@ -114,13 +116,13 @@ returns-in_err-feed_piece-clause-read g c =
     λ is.
     let failed : c.feed_piece.result ≡ Err fault.Read = cc (passed.1, passed.2, c.in_err-feed_piece.was, is) in
     Reads-next capture_limit (length kept.read.0) None _ _ _ kept.read.3 (c.feed_piece.ensures.read failed)
-    (length-fed kept.read.0 c.pieces.received c.pieces.reader kept.read.2 kept.within kept.short)
+    (length-fed kept.read.0 c.pieces.received c.pieces.reader kept.read.2 kept.within kept.short kept.inside)
 
 pub returns-in_err-feed_piece-clause-ended : goal.returns-in_err-feed_piece-clause-ended
 returns-in_err-feed_piece-clause-ended g c =
     let passed = err_from_is_err_and c.from_residual.result c.from_residual.ensures.1 in
     let kept = c.pieces.invariant in
-    let bound = length-fed kept.read.0 c.pieces.received c.pieces.reader kept.read.2 kept.within kept.short in
+    let bound = length-fed kept.read.0 c.pieces.received c.pieces.reader kept.read.2 kept.within kept.short kept.inside in
     λ unread. elim c.in_err-feed_piece.ensures.only [
       | inl read ↦ absurd (unread (cc (passed.1, passed.2, read)))
       | inr memory ↦
@@ -135,7 +137,7 @@ returns-in_err-pull_frames-clause-ended g c = λ _.
     let feeds = c.in_ok-feed_piece.ensures.ok in (
       length feeds.bytes,
       Reads-next capture_limit (length kept.read.0) (Some (length feeds.bytes)) _ _ _ kept.read.3 feeds.taken
-          (length-fed kept.read.0 c.pieces.received c.pieces.reader kept.read.2 kept.within kept.short),
+          (length-fed kept.read.0 c.pieces.received c.pieces.reader kept.read.2 kept.within kept.short kept.inside),
     )
 
 pub returns-then-branch-clause-ended : goal.returns-then-branch-clause-ended
@@ -144,5 +146,5 @@ returns-then-branch-clause-ended g c = λ _.
     let feeds = c.in_ok-feed_piece.ensures.ok in (
       length feeds.bytes,
       Reads-next capture_limit (length kept.read.0) (Some (length feeds.bytes)) _ _ _ kept.read.3 feeds.taken
-          (length-fed kept.read.0 c.pieces.received c.pieces.reader kept.read.2 kept.within kept.short),
+          (length-fed kept.read.0 c.pieces.received c.pieces.reader kept.read.2 kept.within kept.short kept.inside),
     )
