@@ -17,6 +17,7 @@ pub mod Once
 pub mod Phases
 pub mod Plans
 pub mod Refused
+pub mod Sampled
 pub mod Scanned
 pub mod Sums
 pub mod Throttling
