@@ -1,0 +1,43 @@
+//! What handles a packet.
+
+use crate::meta::Meta;
+use onvm_base::{NoMemory, Packet, Verdict};
+
+/// A network function.
+///
+/// What it does is a relation of its own, `acts`. Whoever calls it through this trait relies on the
+/// clauses alone: so the packets that it handled are a journal through which `acts` leads, from the
+/// state that it began with to the one that it has.
+pub trait NetFunction: Drop {
+    ghost use Rattle.std.specs.Prelude.{◌≡◌, ◌≤◌, ℕ, List, length, IfOk, OnErr};
+    ghost use Rattle.onvm_base.specs.declared.limits.TheConstants.{MAX_FRAME_BYTES};
+    ghost use Rattle.onvm_base.specs.declared.outcome.Verdict.{Verdict};
+    ghost use Rattle.nf_api.specs.declared.meta.Meta.{Meta};
+    ghost use Rattle.nf_api.specs.Tree.{Tree};
+
+    /// What it keeps between packets.
+    ghost state: { Self → Tree };
+
+    /// In a state, for a packet of these bytes and for this meta, it may give this verdict, leave
+    /// these bytes and go to this state.
+    ghost acts: { Self → Tree → List ℕ → Meta → Verdict → List ℕ → Tree → Type 0 };
+
+    /// Handles a packet. Want of memory leaves the function and the packet as they were, and the
+    /// packet may be handed in again.
+    fn handle(&mut self, packet: &mut Packet, meta: &Meta) -> Result<Verdict, NoMemory>
+        ensures acts { IfOk result (λ verdict.
+            acts self.old (state self.old) packet.old meta.now verdict packet.new (state self.new)) }
+
+        // What it may do later, it might have done before.
+        ensures kept { (before : Tree) (bytes : List ℕ) (meta : Meta) (verdict : Verdict) (left : List ℕ) (after : Tree)
+            → acts self.new before bytes meta verdict left after
+            → acts self.old before bytes meta verdict left after }
+        ensures unchanged { OnErr result ((state self.new ≡ state self.old) × (packet.new ≡ packet.old)) }
+
+        // What it might have done before a want of memory, it may do afterwards.
+        ensures regained { OnErr result
+            ((before : Tree) (bytes : List ℕ) (meta : Meta) (verdict : Verdict) (left : List ℕ) (after : Tree)
+            → acts self.old before bytes meta verdict left after
+            → acts self.new before bytes meta verdict left after) }
+        ensures within { length packet.old ≤ MAX_FRAME_BYTES → length packet.new ≤ MAX_FRAME_BYTES };
+}
