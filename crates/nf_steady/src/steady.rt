@@ -8,7 +8,7 @@ use crate::filter::{copy_of, filter};
 use crate::life::age;
 use crate::tags::{tag, untag};
 use nf_api::{Meta, NetFunction};
-use onvm_base::{Kind, NoMemory, Packet, PortId, TestsList, Verdict};
+use onvm_base::{Kind, MAX_FRAME_BYTES, NoMemory, Packet, PortId, TestsList, Verdict};
 use std::alloc::Global;
 
 /// A function that keeps nothing between packets.
@@ -93,6 +93,9 @@ impl NetFunction for Steady {
     ghost acts = { λ steady. ActsSteadily (kind_of steady) };
 
     fn handle(&mut self, packet: &mut Packet, meta: &Meta) -> Result<Verdict, NoMemory> {
-        self.answer(packet, meta.frame.port)
+        let answer = self.answer(packet, meta.frame.port);
+        // A packet is within the limit wherever it is.
+        prove!(packet.bytes().len() <= MAX_FRAME_BYTES);
+        answer
     }
 }
