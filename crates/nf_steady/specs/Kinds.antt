@@ -18,10 +18,10 @@ kind_of (steady.Tag vlan priority) = kind.Tag vlan priority
 kind_of steady.Untag = kind.Untag
 kind_of (steady.Macs target source) = kind.Macs target source
 
--- a function of this kind keeps a copy of what stands in the kind's list
-abbrev pub is_copied : Kind → Bool
-is_copied (kind.Filter tests) = true
-is_copied _ = false
+-- a function of this kind has tests to keep
+abbrev pub keeps_tests : Kind → Bool
+keeps_tests (kind.Filter tests) = true
+keeps_tests _ = false
 
 -- a tag has a place in the frame, and with it the frame isn't too long
 abbrev pub has_room : List ℕ → Bool

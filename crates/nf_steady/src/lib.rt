@@ -6,7 +6,7 @@
 #![tactic(auto)]
 
 mod addresses;
-mod filter;
+mod filters;
 mod life;
 mod steady;
 mod tags;

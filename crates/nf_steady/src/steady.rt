@@ -1,10 +1,10 @@
 //! Steady functions.
 ghost use Rattle.std.specs.Prelude.{◌≡◌, IsTrue, IfOk, OnErr};
 ghost use Rattle.nf_api.specs.Answers.{IsAnswer, is_plain};
-ghost use Rattle.nf_steady.specs.Kinds.{does_grow, is_copied, kind_of};
+ghost use Rattle.nf_steady.specs.Kinds.{does_grow, keeps_tests, kind_of};
 
 use crate::addresses::address;
-use crate::filter::{copy_of, filter};
+use crate::filters::{copy_of, filter};
 use crate::life::age;
 use crate::tags::{tag, untag};
 use nf_api::{Meta, NetFunction};
@@ -30,7 +30,7 @@ impl Steady {
     pub fn make(alloc: Global, kind: &Kind) -> Result<Steady, NoMemory>
         requires plain { IsTrue (is_plain kind.now) }
         ensures made { IfOk result (λ steady. kind_of steady ≡ kind.now) }
-        ensures copies { OnErr result (IsTrue (is_copied kind.now)) }
+        ensures copies { OnErr result (IsTrue (keeps_tests kind.now)) }
     {
         Ok(match kind {
             Kind::Forward => Steady::Forward,
@@ -52,7 +52,12 @@ impl Steady {
                 target: *target,
                 source: *source,
             },
-            _ => unreachable!(),
+            Kind::Route { .. }
+            | Kind::Balance { .. }
+            | Kind::Count
+            | Kind::Police { .. }
+            | Kind::Nat { .. }
+            | Kind::Guest { .. } => unreachable!(),
         })
     }
 

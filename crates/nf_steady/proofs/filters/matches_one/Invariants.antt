@@ -1,6 +1,6 @@
 use Rattle.std.proofs.Common.{◌≡◌, drop}
 use Rattle.nf_api.specs.Answers.{does_match}
-use Rattle.nf_steady.proofs.filter.matches_one.Given as goal
+use Rattle.nf_steady.proofs.filters.matches_one.Given as goal
 
 -- whether one of the objects that are left matches is whether one of all does
 abbrev pub invariant-loop-tests : goal.invariant-loop-tests
