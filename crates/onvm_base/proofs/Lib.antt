@@ -1,1 +1,1 @@
-pub mod Exchanged
+pub mod Replaced

@@ -1,5 +1,5 @@
 -- Where a frame goes: as it enters, and after each verdict.
-use Rattle.std.specs.Prelude.{ℕ, ◌+◌, ◌%◌, ◌==◌, nat_lt, if◌then◌else◌, List, [], ◌∷◌, length, Option, Some, None, slice_get, slice_index, option_and_then}
+use Rattle.std.specs.Prelude.{ℕ, ◌≡◌, ◌+◌, ◌%◌, ◌==◌, nat_lt, if◌then◌else◌, List, [], ◌∷◌, length, Option, Some, None, slice_get, slice_index, option_and_then}
 use Rattle.onvm_base.specs.declared.ids.ChainId.{ChainId}
 use Rattle.onvm_base.specs.declared.outcome.Verdict.{Verdict}
 use Rattle.onvm_base.specs.declared.outcome.Verdict.TheVariants.{Drop, Next, ToService, Out}
@@ -41,3 +41,11 @@ step plan chain cursor hops Drop hash = End Asked
 step plan chain cursor hops Next hash = to_step plan (step_at plan chain (cursor + 1)) (cursor + 1) hops hash
 step plan chain cursor hops (ToService service) hash = to_service plan service cursor hops hash
 step plan chain cursor hops (Out port) hash = if nat_lt port plan.ports then Leave port else End NoPort
+
+-- the function is an instance of a service that a step of the chain names
+pub record IsOfChain (plan : Plan) (chain : ChainId) (f : ℕ) : Type 0 where
+  pub at : ℕ
+  pub service : ℕ
+  pub named : step_at plan chain at ≡ Some (Service service)
+  pub instance : ℕ
+  pub is : slice_get (instances service plan.functions) instance ≡ Some f

@@ -52,11 +52,14 @@ impl Packet {
         // Taking bytes out needs no memory.
         ensures removes { length with.now ≡ 0 → IsOk result }
     {
+        let behind = upto..self.bytes.len();
+        let kept = self.bytes.len() - (upto - from);
+        // Room at the end, before what stands behind the part moves over.
         self.bytes.extend_from_slice(with)?;
-        exchange(&mut self.bytes, from, upto);
-        self.bytes.truncate(self.bytes.len() - (upto - from));
-        let mid = self.bytes.len() - with.len();
-        exchange(&mut self.bytes, from, mid);
+        let next = from + with.len();
+        self.bytes.copy_within(behind, next);
+        overwrite(&mut self.bytes, from, with);
+        self.bytes.truncate(kept + with.len());
         Ok(())
     }
 
@@ -69,12 +72,10 @@ impl Packet {
     }
 }
 
-// Exchanges the bytes from `from` up to `mid` with all that lie behind them.
-fn exchange(bytes: &mut [u8], from: usize, mid: usize)
-    requires start { from ≤ mid }
-    requires within { mid ≤ length bytes.old }
-    ensures { bytes.new ≡ take from bytes.old ++ drop mid bytes.old ++ take (mid - from) (drop from bytes.old) }
+// Writes bytes over those from `at` on.
+fn overwrite(bytes: &mut [u8], at: usize, over: &[u8])
+    requires { at + length over.now ≤ length bytes.old }
+    ensures { bytes.new ≡ take at bytes.old ++ (over.now ++ drop (at + length over.now) bytes.old) }
 {
-    let behind = &mut bytes[from..];
-    behind.rotate_left(mid - from);
+    bytes[at..at + over.len()].copy_from_slice(over);
 }

@@ -11,7 +11,7 @@ use Rattle.onvm_base.specs.declared.chain.ChainStep.TheVariants.{To as Service, 
 use Rattle.onvm_base.specs.declared.outcome.Outcome.TheVariants.{Throttled}
 use Rattle.onvm_base.specs.declared.outcome.Record.{Record}
 use Rattle.onvm_base.specs.declared.outcome.Verdict.TheVariants.{Next}
-use Rattle.onvm_base.specs.Moves.{step_at}
+use Rattle.onvm_base.specs.Moves.{IsOfChain, step_at}
 use Rattle.onvm_base.specs.Services.{instances}
 use Rattle.onvm_core.specs.declared.entry.Entry.{Entry}
 use Rattle.onvm_core.specs.declared.layout.Word.TheVariants.{Pool as PoolWord, Cell, Post as PostWord, Weight}
@@ -22,7 +22,7 @@ use Rattle.onvm_core.specs.History.{History}
 use Rattle.onvm_core.specs.Words.{pool_bits}
 use Rattle.onvm_core.specs.Lawful.{IsLawful}
 use Rattle.onvm_core.specs.Logs.{entry_parcel, log_of}
-use Rattle.onvm_core.specs.Receiving.{IsHeld, IsOfChain, Raises}
+use Rattle.onvm_core.specs.Receiving.{IsHeld, Raises}
 use Rattle.onvm_core.specs.Handling.SawRoom.{ByLook}
 use Rattle.onvm_core.specs.Blocks.{AllOfBlocks, IsOfBlocks}
 use Rattle.onvm_core.specs.Marks.{Marks, Pass, Ages, AreMarked, AllMarked, IsPaid, IsSettled, IsOwed, has_bit, is_throttled}

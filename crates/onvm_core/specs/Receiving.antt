@@ -1,16 +1,12 @@
 -- The pattern of a receive role's log: one block for each frame of its port, in order, and marks passes between.
-use Rattle.std.specs.Prelude.{ℕ, ◌≡◌, ◌+◌, ◌*◌, ◌/◌, ◌%◌, ◌^◌, ◌<◌, ◌≤◌, ◌⊎◌, ◌==◌, if◌then◌else◌, IsBitSet, [], ◌∷◌, Option, Some, None, slice_get}
-use Rattle.onvm_base.specs.declared.chain.ChainStep.TheVariants.{To as Service}
-use Rattle.onvm_base.specs.declared.ids.ChainId.{ChainId}
+use Rattle.std.specs.Prelude.{ℕ, ◌≡◌, ◌+◌, ◌*◌, ◌/◌, ◌%◌, ◌^◌, ◌<◌, ◌≤◌, ◌⊎◌, ◌==◌, if◌then◌else◌, IsBitSet, [], ◌∷◌, Option, Some, None}
 use Rattle.onvm_base.specs.declared.ids.FnId.{FnId}
 use Rattle.onvm_base.specs.declared.ids.RingId.{RingId}
 use Rattle.onvm_base.specs.declared.ids.RingId.TheVariants.{Lane}
 use Rattle.onvm_base.specs.declared.outcome.Outcome.TheVariants.{Sent, Throttled, RingFull, PoolEmpty}
 use Rattle.onvm_base.specs.declared.outcome.Record.{Record}
 use Rattle.onvm_base.specs.declared.moves.Move.TheVariants.{To, Leave}
-use Rattle.onvm_base.specs.declared.plan.Plan.{Plan}
-use Rattle.onvm_base.specs.Moves.{enter, step_at}
-use Rattle.onvm_base.specs.Services.{instances}
+use Rattle.onvm_base.specs.Moves.{IsOfChain, enter}
 use Rattle.onvm_core.specs.declared.entry.Entry.{Entry}
 use Rattle.onvm_core.specs.declared.layout.Layout.{Layout}
 use Rattle.onvm_core.specs.declared.layout.Word.{Word}
@@ -70,14 +66,6 @@ done_in (Took done buf) = done
 done_in (Barred done buf ring) = done
 
 -- Part 1, admit: looks at the post words of the feeders in order
-
--- the function is an instance of a service that a step of the chain names
-pub record IsOfChain (plan : Plan) (chain : ChainId) (f : ℕ) : Type 0 where
-  pub at : ℕ
-  pub service : ℕ
-  pub named : step_at plan chain at ≡ Some (Service service)
-  pub instance : ℕ
-  pub is : slice_get (instances service plan.functions) instance ≡ Some f
 
 -- the value has the bit of a function of the frame's chain
 pub record Raises (setting : Setting) (e : Entry) (seen f : ℕ) : Type 0 where

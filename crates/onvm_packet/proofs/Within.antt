@@ -1,10 +1,9 @@
 -- A network head that is read lies in the frame.
-use Rattle.std.proofs.Common.{◌≡◌, ◌∙◌, sym, ap, subst, ℕ, ◌+◌, ◌*◌, ◌/◌, ◌≤◌, Bool, true, List, length, nat_le, ◌==◌, ◌&&◌}
+use Rattle.std.proofs.Common.{◌≡◌, ◌∙◌, sym, subst, ℕ, ◌+◌, ◌*◌, ◌/◌, ◌≤◌, Bool, true, List, length, nat_le, ◌==◌, ◌&&◌}
 use Rattle.std.proofs.lemmas.Bool.{and_parts, eqb-true, leb-true, cond_both}
-use Rattle.onvm_packet.specs.Heads.{heads_of, is_ipv4, is_ipv6, net_at, net_of, type_at, words_at}
+use Rattle.onvm_packet.specs.Heads.{is_ipv4, is_ipv6, net_at, net_of, type_at, words_at}
 use Rattle.onvm_packet.specs.Bytes.{byte, number}
 use Rattle.onvm_packet.specs.Within.{IsIpv4Within, IsWithin}
-use Rattle.onvm_packet.specs.declared.heads.Heads.{Heads}
 use Rattle.onvm_packet.specs.declared.heads.Net.{Net}
 use Rattle.onvm_packet.specs.declared.heads.Net.TheVariants as net
 
@@ -36,17 +35,14 @@ net_at_within ethertype at bytes =
 pub net_within : (bytes : List ℕ) → IsWithin (net_of bytes) bytes
 net_within bytes = net_at_within (number 2 (type_at bytes) bytes) (type_at bytes + 2) bytes
 
--- the same of the heads that were read
-module _ (bytes : List ℕ) (heads : Heads) (read : heads ≡ heads_of bytes) where
-  pub net_read : net_of bytes ≡ heads.net
-  net_read = sym (ap (λ (h : Heads). h.net) read)
-
-  pub v4_read : (at source target protocol ttl : ℕ) → heads.net ≡ net.V4 at source target protocol ttl → IsIpv4Within at bytes
+-- the same of a network head that was read
+module _ (bytes : List ℕ) (head : Net) (read : head ≡ net_of bytes) where
+  pub v4_read : (at source target protocol ttl : ℕ) → head ≡ net.V4 at source target protocol ttl → IsIpv4Within at bytes
   v4_read at source target protocol ttl is =
       let P : Net → Type 0 = λ n. IsWithin n bytes in
-      subst P (net_read ∙ is) (net_within bytes)
+      subst P (sym read ∙ is) (net_within bytes)
 
-  pub v6_read : (at source target next hops : ℕ) → heads.net ≡ net.V6 at source target next hops → at + 40 ≤ length bytes
+  pub v6_read : (at source target next hops : ℕ) → head ≡ net.V6 at source target next hops → at + 40 ≤ length bytes
   v6_read at source target next hops is =
       let P : Net → Type 0 = λ n. IsWithin n bytes in
-      subst P (net_read ∙ is) (net_within bytes)
+      subst P (sym read ∙ is) (net_within bytes)

@@ -14,7 +14,16 @@ pub fn set_ttl(packet: &mut Packet, ttl: u8)
     requires network { net_of packet.old ≢ net.None }
     ensures { packet.new ≡ with_ttl ttl packet.old }
 {
-    match parse(packet.bytes()).net {
+    let net = parse(packet.bytes()).net;
+    set_ttl_at(packet, &net, ttl);
+}
+
+/// [`set_ttl`] where the network head of this packet has been read. Without one nothing changes.
+pub fn set_ttl_at(packet: &mut Packet, net: &Net, ttl: u8)
+    requires read { net.now ≡ net_of packet.old }
+    ensures { packet.new ≡ with_ttl ttl packet.old }
+{
+    match *net {
         Net::None => {}
         Net::V4 { at, protocol, .. } => set_ipv4_ttl(packet, at as usize, ttl, protocol),
         Net::V6 { at, .. } => packet.set(at as usize + 7, ttl),

@@ -85,12 +85,11 @@ pub fn parse(bytes: &[u8]) -> Heads
     }
 }
 
-// Whether a tag, and a type behind it, follow the addresses.
-fn is_tagged(bytes: &[u8]) -> bool
-    requires { 14 ≤ length bytes.now }
+/// Whether a tag, and a type behind it, follow the addresses.
+pub fn is_tagged(bytes: &[u8]) -> bool
     ensures { result ≡ is_tagged bytes.now }
 {
-    u16_at(bytes, TYPE_AT) == TAG_TYPE && bytes.len() >= TAGGED_LEN
+    bytes.len() >= TAGGED_LEN && u16_at(bytes, TYPE_AT) == TAG_TYPE
 }
 
 // The heads of a frame whose type stands at an offset.

@@ -1,18 +1,24 @@
-use Rattle.std.proofs.Common.{◌≡◌, ◌∙◌, ap, ◌-◌, ◌≤◌, ◌++◌, length, take, drop, arith, refl}
+use Rattle.std.proofs.Common.{◌≡◌, ◌∙◌, sym, ap, append_assoc, ℕ, List, ◌-◌, ◌≤◌, ◌+◌, ◌++◌, length, take, drop, arith, refl}
 use Rattle.std.proofs.lemmas.List.{with_items_is}
 use Rattle.std.proofs.lemmas.Grind.{common_steps}
-use Rattle.onvm_base.proofs.Exchanged.{replaced}
+use Rattle.onvm_base.proofs.Replaced.{moved, replaced}
 use Rattle.onvm_base.proofs.packet.Packet.replace.Goals as goal
 
 pub returns-clause-ok : goal.returns-clause-ok
 returns-clause-ok c =
-    let grown : c.deref_mut.result.now ≡ c.self.inside.bytes.items ++ c.args.with.now = grind (arith, common_steps) in
-    let back : take c.extend_from_slice.new.self.len (c.exchange.new.bytes ++ drop (length c.exchange.new.bytes) c.extend_from_slice.new.self.items) ≡ c.exchange.new.bytes =
-    with_items_is c.extend_from_slice.new.self c.exchange.new.bytes (omega arith) in
-    let cut : c.deref_mut-2.result.now ≡ take (length c.exchange.new.bytes - (c.args.upto - c.args.from)) c.exchange.new.bytes =
-    c.deref_mut-2.ensures.value ∙ c.truncate.ensures.items ∙ ap (take _) back ∙ ap (λ n. take n c.exchange.new.bytes) (omega arith) in
-    let there : c.args.upto ≤ length c.self.inside.bytes.items = rw c.self.view_is c.requires.within in
-    with_items_is c.truncate.new.self c.exchange-2.new.bytes (omega arith)
-    ∙ replaced c.self.inside.bytes.items c.args.with.now c.deref_mut.result.now c.exchange.new.bytes c.deref_mut-2.result.now c.exchange-2.new.bytes
-    c.args.from c.args.upto _ _ c.requires.start there grown c.exchange.ensures refl cut (omega arith) c.exchange-2.ensures
-    ∙ rw c.self.view_is refl
+    let s : List ℕ = c.self.inside.bytes.items in
+    let w : List ℕ = c.args.with.now in
+    let there : c.args.upto ≤ length s = rw c.self.view_is c.requires.within in
+    let same_len : c.len.result ≡ length s = omega arith in
+    let room : c.extend_from_slice.new.self.items ≡ s ++ w = grind (arith, common_steps) in
+    let over : c.deref_mut.result.now ≡ moved s w c.args.from c.args.upto c.requires.start there =
+    c.deref_mut.ensures.value ∙ c.copy_within.ensures.items ∙ rw (room, same_len) refl
+    in
+    let put : take (length s - (c.args.upto - c.args.from) + length w) c.overwrite.new.bytes
+    ≡ take c.args.from s ++ (w ++ drop c.args.upto s) =
+    rw (c.overwrite.ensures, over) (replaced s w c.args.from c.args.upto c.requires.start there)
+    in
+    c.truncate.ensures.items
+    ∙ ap (take _) (with_items_is c.copy_within.new.self c.overwrite.new.bytes (omega arith))
+    ∙ ap (λ (n : ℕ). take n c.overwrite.new.bytes) (omega arith)
+    ∙ put ∙ sym (append_assoc (take c.args.from s) w (drop c.args.upto s)) ∙ rw c.self.view_is refl
