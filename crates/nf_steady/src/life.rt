@@ -4,18 +4,19 @@ ghost use Rattle.nf_api.specs.Answers.{Is, aged, life_of};
 ghost use Rattle.onvm_packet.specs.Heads.{net_of};
 
 use onvm_base::{Packet, Verdict};
-use onvm_packet::{Net, parse, set_ttl};
+use onvm_packet::{Net, parse, set_ttl_at};
 
 /// Takes one off a frame's life, and drops one whose life is over. A frame without a network head
 /// goes on as it is.
 pub fn age(packet: &mut Packet) -> Verdict
     ensures { Is (aged (life_of (net_of packet.old)) packet.old) result packet.new }
 {
-    match life_of(&parse(packet.bytes()).net) {
+    let net = parse(packet.bytes()).net;
+    match life_of(&net) {
         None => Verdict::Next,
         Some(0 | 1) => Verdict::Drop,
         Some(life) => {
-            set_ttl(packet, life - 1);
+            set_ttl_at(packet, &net, life - 1);
             Verdict::Next
         }
     }

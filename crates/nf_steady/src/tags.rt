@@ -4,7 +4,7 @@ ghost use Rattle.nf_api.specs.Answers.{Is, tag_of, tagged, untagged};
 ghost use Rattle.nf_steady.specs.Kinds.{has_room};
 
 use onvm_base::{MAX_FRAME_BYTES, NoMemory, Packet, Verdict};
-use onvm_packet::{parse, pop_tag, push_tag};
+use onvm_packet::{is_tagged, pop_tag, push_tag};
 
 // The addresses and the type of an Ethernet head.
 const ETHERNET_LEN: usize = 14;
@@ -41,7 +41,7 @@ fn tag_of(vlan: u16, priority: u8) -> u16
 pub fn untag(packet: &mut Packet)
     ensures { packet.new ≡ untagged packet.old }
 {
-    if parse(packet.bytes()).vlan.is_some() {
+    if is_tagged(packet.bytes()) {
         pop_tag(packet);
     }
 }
