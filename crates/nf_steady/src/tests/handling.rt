@@ -1,0 +1,36 @@
+//! A steady function as whoever runs functions sees it.
+
+use super::frames::{SHORT, udp};
+use crate::Steady;
+use nf_api::Meta;
+use nf_api::laws::packets_in_turn_are_a_journal;
+use onvm_base::{ChainId, FrameId, Packet, PortId, Stamp, Verdict};
+use std::test::Fail;
+
+const META: Meta = Meta {
+    frame: FrameId {
+        port: PortId(0),
+        number: 1,
+    },
+    stamp: Stamp {
+        seconds: 0,
+        nanos: 0,
+        tail: 0,
+    },
+    chain: ChainId(0),
+    hops: 0,
+    hash: 0,
+};
+
+#[test]
+fn packets_in_turn_are_answered_one_by_one(rt: HostRuntime) -> Result<(), Fail> {
+    let mut dying = udp();
+    dying[22] = 1;
+    let mut first = Packet::from_slice(rt.alloc(), &dying)?;
+    let mut second = Packet::from_slice(rt.alloc(), &SHORT)?;
+    let verdicts = packets_in_turn_are_a_journal(&mut Steady::Ttl, &mut first, &mut second, &META)?;
+    assert_eq!(rt; verdicts, (Verdict::Drop, Verdict::Next));
+    assert_eq!(rt; first.bytes(), &dying[..]);
+    assert_eq!(rt; second.bytes(), &SHORT[..]);
+    Ok(())
+}
