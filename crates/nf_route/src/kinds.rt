@@ -33,7 +33,7 @@ impl Route {
     {
         match kind {
             Kind::Route { table } => {
-                let table = Table::make(alloc, table.as_slice())?;
+                let table = Table::make(alloc, table)?;
                 Ok(Route::Route { table })
             }
             Kind::Balance { services } => {

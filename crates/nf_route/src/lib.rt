@@ -6,8 +6,10 @@
 //! *Balancing* sends all frames of a flow to one service of a list.
 #![tactic(auto)]
 
+mod bounds;
 mod kinds;
 mod lookup;
+mod ranges;
 mod services;
 mod span;
 mod table;

@@ -2,39 +2,56 @@
 ghost use Rattle.std.specs.Prelude.{◌≡◌, IfOk};
 ghost use Rattle.nf_api.specs.Routing.{IsFound};
 
-use crate::lookup::find;
-use onvm_base::{NoMemory, RouteEntry, Verdict};
+use crate::ranges::{Range, ranges_of, verdict_at};
+use onvm_base::{NoMemory, RouteList, Verdict};
 use std::alloc::Global;
+use std::fmt;
 use std::marker::Model;
+use std::snapshot::Snapshot;
 
-/// The entries of a table, in file order.
-#[derive(Debug, Drop)]
+/// The entries of a table, in file order. It holds the ranges that they make of all addresses.
+#[derive(Drop)]
 pub struct Table {
-    entries: Vec<RouteEntry>,
+    ranges: Vec<Range>,
+    made_of: Snapshot<RouteList>,
 }
 
 impl Model for Table {
     ghost use Rattle.std.specs.Prelude.{List};
     ghost use Rattle.onvm_base.specs.declared.function.RouteEntry.{RouteEntry};
+    ghost use Rattle.nf_route.specs.Ranges.{AreRanges};
 
     ghost Value = { List RouteEntry };
 
-    ghost view = { λ table. table.entries.items };
+    ghost view = { λ table. table.made_of.value };
+
+    ghost invariant = { λ table. AreRanges table.made_of.value table.ranges.items };
 }
 
 impl Table {
     /// A table of these entries.
-    pub fn make(alloc: Global, entries: &[RouteEntry]) -> Result<Table, NoMemory>
+    pub fn make(alloc: Global, entries: &RouteList) -> Result<Table, NoMemory>
         ensures { IfOk result (λ table. table ≡ entries.now) }
     {
-        let entries = Vec::from_slice(alloc, entries)?;
-        Ok(Table { entries })
+        let ranges = ranges_of(alloc, entries.as_slice())?;
+        Ok(Table {
+            ranges,
+            made_of: Snapshot::of(entries),
+        })
     }
 
     /// The verdict for an address (RFC 1812, 5.2.4.3). It takes no memory.
     pub fn find(&self, target: u32) -> Verdict
         ensures { IsFound self.now target result }
     {
-        find(&self.entries, target)
+        verdict_at(&self.ranges, target)
+    }
+}
+
+impl fmt::Debug for Table {
+    fn fmt<W: fmt::Write>(&self, f: &mut fmt::Formatter<W>) -> fmt::Result {
+        f.debug_struct("Table")
+            .field("ranges", &self.ranges)
+            .finish_non_exhaustive()
     }
 }

@@ -1,7 +1,7 @@
 //! Frames to test with, and functions to send them through.
 
 use crate::Route;
-use onvm_base::{Kind, ListOf, NoMemory, RouteEntry};
+use onvm_base::{Kind, ListOf, NoMemory, RouteEntry, RouteList};
 use std::alloc::Global;
 
 /// Sixteen bytes with no network head. Its flow hash is 84696351.
@@ -17,6 +17,11 @@ pub const UDP: [u8; 42] = [
 
 /// The function of the kind that routes by these entries.
 pub fn route_of(alloc: Global, entries: &[RouteEntry]) -> Result<Route, NoMemory> {
-    let table = ListOf::from_vec(Vec::from_slice(alloc, entries)?);
+    let table = list_of(alloc, entries)?;
     Route::make(alloc, &Kind::Route { table })
+}
+
+/// These entries, as a chain file has them.
+pub fn list_of(alloc: Global, entries: &[RouteEntry]) -> Result<RouteList, NoMemory> {
+    Ok(ListOf::from_vec(Vec::from_slice(alloc, entries)?))
 }

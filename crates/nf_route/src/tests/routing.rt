@@ -1,6 +1,6 @@
 //! Which entry wins.
 
-use super::frames::{SHORT, UDP, route_of};
+use super::frames::{SHORT, UDP, list_of, route_of};
 use crate::Table;
 use onvm_base::{ChainStep, Prefix, RouteEntry, Verdict};
 use std::test::Fail;
@@ -59,15 +59,13 @@ fn a_frame_without_an_ipv4_head_is_dropped_even_where_all_addresses_are(
 fn a_prefix_has_its_first_and_its_last_address_and_none_beside_them(
     rt: HostRuntime,
 ) -> Result<(), Fail> {
-    let table = Table::make(
-        rt.alloc(),
-        &[
-            entry(0x0a00_0000, 8, ChainStep::To(8)),
-            entry(0x0a01_0203, 16, ChainStep::To(16)),
-            entry(0x0a01_0001, 32, ChainStep::To(32)),
-            entry(0xffff_ffff, 32, ChainStep::Out(2)),
-        ],
-    )?;
+    let entries = [
+        entry(0x0a00_0000, 8, ChainStep::To(8)),
+        entry(0x0a01_0203, 16, ChainStep::To(16)),
+        entry(0x0a01_0001, 32, ChainStep::To(32)),
+        entry(0xffff_ffff, 32, ChainStep::Out(2)),
+    ];
+    let table = Table::make(rt.alloc(), &list_of(rt.alloc(), &entries)?)?;
     for (target, verdict) in [
         (0, Verdict::Drop),
         (0x09ff_ffff, Verdict::Drop),
@@ -91,7 +89,7 @@ fn a_prefix_has_its_first_and_its_last_address_and_none_beside_them(
 #[test]
 fn a_prefix_of_no_bits_has_every_address(rt: HostRuntime) -> Result<(), Fail> {
     let all = entry(0x0a01_0203, 0, ChainStep::Out(3));
-    let table = Table::make(rt.alloc(), &[all])?;
+    let table = Table::make(rt.alloc(), &list_of(rt.alloc(), &[all])?)?;
     for target in [0, 1, 0x7fff_ffff, 0x8000_0000, 0xffff_ffff] {
         assert_eq!(rt; table.find(target), Verdict::Out(3), "{target}");
     }
