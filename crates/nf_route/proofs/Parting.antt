@@ -1,5 +1,5 @@
 -- The ends of prefixes part the addresses that they have from the others.
-use Rattle.std.proofs.Common.{◌≡◌, ◌≢◌, ◌∙◌, sym, ap, subst, ℕ, ◌+◌, ◌^◌, ◌<◌, ◌≤◌, ◌↔◌, true, List, Some, length, get_or, inl, inr, arith}
+use Rattle.std.proofs.Common.{◌≡◌, ◌∙◌, sym, ap, subst, ℕ, ◌+◌, ◌^◌, ◌<◌, ◌≤◌, ◌↔◌, true, List, Some, length, get_or, inl, inr, arith}
 use Rattle.std.specs.List.{Contains, slice_get}
 use Rattle.std.proofs.lemmas.Bool.{cases_Bool, cases_lt, true≢false}
 use Rattle.std.proofs.lemmas.Option.{get_or_from_slice_get, slice_get_within}
@@ -14,22 +14,22 @@ pub parted : (bounds : List ℕ) (prefix : Prefix) (first behind : ℕ)
     → (first < 2 ^ 32 → Contains bounds first) → (behind < 2 ^ 32 → Contains bounds behind) → Parts bounds prefix
 parted bounds prefix first behind has begins ends = λ low high below address differ.
     elim (cases_Bool (covers prefix low)) [
-    | inl here ↦
-        let row = (has low).0 here in
-        elim (cases_lt high behind) [
-        | inl within ↦ absurd (differ (here ∙ sym ((has high).1 (omega arith, within))))
-        | inr past ↦ (behind, ends (omega arith), row.1, past)
-        ]
-    | inr away ↦
-        elim (cases_Bool (covers prefix high)) [
-        | inl here ↦
-            let row = (has high).0 here in
-            elim (cases_lt low first) [
-            | inl before ↦ (first, begins (omega arith), before, row.0)
-            | inr within ↦ absurd (true≢false (sym ((has low).1 (within, omega arith)) ∙ away))
-            ]
-        | inr also ↦ absurd (differ (away ∙ sym also))
-        ]
+      | inl here ↦
+          let row = (has low).0 here in
+          elim (cases_lt high behind) [
+            | inl within ↦ absurd (differ (here ∙ sym ((has high).1 (omega arith, within))))
+            | inr past ↦ (behind, ends (omega arith), row.1, past)
+          ]
+      | inr away ↦
+          elim (cases_Bool (covers prefix high)) [
+            | inl here ↦
+                let row = (has high).0 here in
+                elim (cases_lt low first) [
+                  | inl before ↦ (first, begins (omega arith), before, row.0)
+                  | inr within ↦ absurd (true≢false (sym ((has low).1 (within, omega arith)) ∙ away))
+                ]
+            | inr also ↦ absurd (differ (away ∙ sym also))
+          ]
     ]
 
 -- more bounds part as well
@@ -59,12 +59,12 @@ PartFirst-more table index d bounds more kept parts first =
     record {
       zero = kept 0 first.zero;
       part = λ i entry lt there. elim (cases_lt i index) [
-      | inl before ↦ Parts-more bounds more entry.prefix kept (first.part i entry before there)
-      | inr last ↦
-          let same : index ≡ i = omega arith in
-          subst (λ (e : RouteEntry). Parts more e.prefix)
-          (ap (λ k. get_or table k d) same ∙ get_or_from_slice_get table i entry d there)
-          parts
+        | inl before ↦ Parts-more bounds more entry.prefix kept (first.part i entry before there)
+        | inr last ↦
+            let same : index ≡ i = omega arith in
+            subst (λ (e : RouteEntry). Parts more e.prefix)
+            (ap (λ k. get_or table k d) same ∙ get_or_from_slice_get table i entry d there)
+            parts
       ];
     }
 

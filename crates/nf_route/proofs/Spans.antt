@@ -2,7 +2,7 @@
 use Rattle.std.proofs.Common.{◌≡◌, ◌∙◌, ap, ℕ, ◌+◌, ◌-◌, ◌*◌, ◌/◌, ◌%◌, ◌^◌, ◌<◌, ◌≤◌, ◌↔◌, eqb, true, eq-eqb, arith}
 use Rattle.std.proofs.lemmas.Bool.{eqb-true}
 use Rattle.std.proofs.lemmas.Nat.{div-mul-add, one_shl, pow_pos}
-use Rattle.std.proofs.Math.Nat.{div-mul-le_self, lt-div-mul-add}
+use Rattle.std.proofs.Math.Nat.{div-mul-le_self, lt-div-mul-add, mod-eq_of_lt}
 
 -- two numbers have the same quotient where one lies in the row of the other
 same_quotient : (a t size : ℕ) → 0 < size
@@ -19,10 +19,11 @@ same_quotient a t size some = (
       eq-eqb _ _ (ap (λ n. n / size) whole ∙ div-mul-add (a / size) size (t - a / size * size) rest),
 )
 
--- the same for the size that a shift by so many free bits gives
-pub spanned : (a t free bits size : ℕ) → free ≡ 32 - bits → size ≡ 1 * 2 ^ free % 2 ^ 64
-    → (eqb (t / 2 ^ (32 - bits)) (a / 2 ^ (32 - bits)) ≡ true) ↔ ((a / size * size ≤ t) × (t < a / size * size + size))
-spanned a t free bits size ef es =
+-- the same as shifts by the free bits compute the ends of the row
+pub spanned : (a t free bits : ℕ) → a < 2 ^ 64 → free ≡ 32 - bits
+    → (eqb (t / 2 ^ (32 - bits)) (a / 2 ^ (32 - bits)) ≡ true)
+    ↔ ((a / 2 ^ free * 2 ^ free % 2 ^ 64 ≤ t) × (t < a / 2 ^ free * 2 ^ free % 2 ^ 64 + 1 * 2 ^ free % 2 ^ 64))
+spanned a t free bits fits is =
     let small : free < 64 = omega arith in
-    let is : size ≡ 2 ^ (32 - bits) = es ∙ one_shl free 64 small ∙ ap (λ n. 2 ^ n) ef in
-    rw is (same_quotient a t (2 ^ (32 - bits)) (pow_pos (32 - bits)))
+    let first : a / 2 ^ free * 2 ^ free < 2 ^ 64 = omega (arith, div-mul-le_self a (2 ^ free)) in
+    rw (← is, one_shl free 64 small, mod-eq_of_lt first) (same_quotient a t (2 ^ free) (pow_pos free))

@@ -27,7 +27,7 @@ pub enum Route {
 impl Route {
     /// The function of a kind, whose parameters it copies.
     pub fn make(alloc: Global, kind: &Kind) -> Result<Route, NoMemory>
-        requires shared { (services : List ℕ) → kind.now ≡ Balance services → 1 ≤ length services }
+        requires some { (services : List ℕ) → kind.now ≡ Balance services → 1 ≤ length services }
         requires routing { IsTrue (is_routing kind.now) }
         ensures { IfOk result (λ route. kind_of route ≡ kind.now) }
     {

@@ -1,5 +1,6 @@
 //! Ranges of addresses that have one verdict each.
-ghost use Rattle.std.specs.Prelude.{◌≡◌, ℕ, IfOk};
+ghost use Rattle.std.specs.Prelude.{◌≡◌, ◌<◌, ◌≤◌, ℕ, length, IfOk};
+ghost use Rattle.std.specs.List.Sorted.{IsNonDecreasingBy, IsPartitionPoint};
 ghost use Rattle.nf_route.specs.Ranges.{AreOrdered, AreRanges, IsIn};
 ghost use Rattle.nf_route.specs.declared.ranges.Range.{Range};
 
@@ -29,12 +30,21 @@ pub fn ranges_of(alloc: Global, entries: &[RouteEntry]) -> Result<Vec<Range>, No
     Ok(ranges)
 }
 
-/// The verdict of the range that an address is in, by binary search.
+/// The verdict of the range that an address is in.
 pub fn verdict_at(ranges: &[Range], target: u32) -> Verdict
     requires { AreOrdered ranges.now }
     ensures { (at : ℕ) × (range : Range) × IsIn ranges.now target at range
         × (result ≡ range.verdict) }
 {
-    let behind = ranges.partition_point(|range| range.first <= target);
-    ranges[behind - 1].verdict
+    ranges[begun(ranges, target) - 1].verdict
+}
+
+// How many ranges begin at an address or below it.
+fn begun(ranges: &[Range], target: u32) -> usize
+    requires { IsNonDecreasingBy (λ (range : Range). range.first) ranges.now }
+    ensures bound { result ≤ length ranges.now }
+    ensures point { IsPartitionPoint (λ range. range.first ≤ target) (λ range. target < range.first)
+        ranges.now result }
+{
+    ranges.partition_point(|range| range.first <= target)
 }

@@ -19,11 +19,11 @@ impl Span {
     {
         match prefix {
             Prefix::V4 { address, length } => {
-                let size = 1u64 << 32u8.saturating_sub(length);
-                let first = u64::from(address) / size * size;
+                let free = 32u8.saturating_sub(length);
+                let first = u64::from(address) >> free << free;
                 Span {
                     first,
-                    behind: first + size,
+                    behind: first + (1 << free),
                 }
             }
             Prefix::V6 { .. } => Span {

@@ -13,7 +13,7 @@ returns c =
     ranged c.args.entries.now c.in_ok-bounds.bounds.items c.loop-bound.ranges.items
     (record {
       firsts =
-        c.loop-bound.invariant.firsts ∙ take_all _ _ c.loop-bound-test.false ∙ c.deref-bound-items.ensures.value;
+          c.loop-bound.invariant.firsts ∙ take_all _ _ c.loop-bound-test.false ∙ c.deref-bound-items.ensures.value;
       found = c.loop-bound.invariant.found;
     })
     c.in_ok-bounds.ensures.rise c.in_ok-bounds.ensures.part
