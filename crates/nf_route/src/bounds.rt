@@ -8,8 +8,8 @@ use crate::span::Span;
 use onvm_base::{NoMemory, Prefix, RouteEntry};
 use std::alloc::Global;
 
-/// The bounds of a table, each once, from the lowest on: 0, and the addresses at which a prefix begins or
-/// has ended.
+/// The bounds of a table, each once, from the lowest on: 0, and the addresses at which a prefix
+/// begins or has just ended.
 pub fn bounds_of(alloc: Global, entries: &[RouteEntry]) -> Result<Vec<u32>, NoMemory>
     ensures rise { IfOk result (λ bounds. IsStrictlyIncreasing bounds.items) }
     ensures part { IfOk result (λ bounds. AreBounds entries.now bounds.items) }
@@ -44,7 +44,7 @@ fn push_ends(bounds: &mut Vec<u32>, prefix: Prefix) -> Result<(), NoMemory>
     Ok(())
 }
 
-// Appends an address, if it is one.
+// Appends an address, unless it is 2^32.
 fn push_address(bounds: &mut Vec<u32>, address: u64) -> Result<(), NoMemory>
     ensures there { IfOk result (λ _. address < 2 ^ 32 → Contains bounds.new.items address) }
     ensures kept { IfOk result (λ _. (bound : ℕ) → Contains bounds.old.items bound

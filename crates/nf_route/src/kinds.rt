@@ -1,5 +1,5 @@
 //! The kinds that pick where a frame goes by its addresses.
-ghost use Rattle.std.specs.Prelude.{◌≡◌, ◌≤◌, ℕ, List, length, IfOk, IsTrue};
+ghost use Rattle.std.specs.Prelude.{◌≡◌, ◌<◌, ℕ, List, length, IfOk, IsTrue};
 ghost use Rattle.onvm_base.specs.declared.ids.PortId.{PortId};
 ghost use Rattle.onvm_base.specs.declared.function.Kind.TheVariants.{Balance};
 ghost use Rattle.nf_api.specs.Answers.{is_routing, ActsSteadily, IsAnswer};
@@ -27,7 +27,7 @@ pub enum Route {
 impl Route {
     /// The function of a kind, whose parameters it copies.
     pub fn make(alloc: Global, kind: &Kind) -> Result<Route, NoMemory>
-        requires some { (services : List ℕ) → kind.now ≡ Balance services → 1 ≤ length services }
+        requires some { (services : List ℕ) → kind.now ≡ Balance services → 0 < length services }
         requires routing { IsTrue (is_routing kind.now) }
         ensures { IfOk result (λ route. kind_of route ≡ kind.now) }
     {

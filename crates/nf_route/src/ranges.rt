@@ -39,7 +39,7 @@ pub fn verdict_at(ranges: &[Range], target: u32) -> Verdict
     ranges[begun(ranges, target) - 1].verdict
 }
 
-// How many ranges begin at an address or below it.
+// How many ranges begin at an address or below it, by binary search.
 fn begun(ranges: &[Range], target: u32) -> usize
     requires { IsNonDecreasingBy (λ (range : Range). range.first) ranges.now }
     ensures bound { result ≤ length ranges.now }

@@ -15,7 +15,8 @@ pub struct Span {
 impl Span {
     /// The addresses that a prefix has: 2^n of them, where n bits are free, or none of IPv6.
     pub fn of(prefix: Prefix) -> Span
-        ensures { (target : ℕ) → (covers prefix target ≡ true) ↔ ((result.first ≤ target) × (target < result.behind)) }
+        ensures { (target : ℕ) → (covers prefix target ≡ true)
+            ↔ ((result.first ≤ target) × (target < result.behind)) }
     {
         match prefix {
             Prefix::V4 { address, length } => {
@@ -33,6 +34,7 @@ impl Span {
         }
     }
 
+    /// Whether an address is among them.
     pub fn has(self, target: u32) -> bool
         ensures { IsTrue result ↔ ((self.first ≤ target) × (target < self.behind)) }
     {

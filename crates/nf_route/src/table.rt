@@ -9,7 +9,8 @@ use std::fmt;
 use std::marker::Model;
 use std::snapshot::Snapshot;
 
-/// The entries of a table, in file order. It holds the ranges that they make of all addresses.
+/// The entries of a table, in file order. What it holds is the ranges that they part all addresses
+/// into.
 #[derive(Drop)]
 pub struct Table {
     ranges: Vec<Range>,
@@ -48,6 +49,7 @@ impl Table {
     }
 }
 
+// By hand, since a snapshot has nothing to print.
 impl fmt::Debug for Table {
     fn fmt<W: fmt::Write>(&self, f: &mut fmt::Formatter<W>) -> fmt::Result {
         f.debug_struct("Table")

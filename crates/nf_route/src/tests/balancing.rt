@@ -1,7 +1,8 @@
 //! Which service a flow goes to, and what a run of packets leaves.
+ghost use Rattle.std.specs.Prelude.{◌<◌, length};
 
 use super::frames::{SHORT, UDP, route_of};
-use crate::{Route, Services};
+use crate::Route;
 use nf_api::Meta;
 use nf_api::laws::packets_in_turn_are_a_journal;
 use onvm_base::{
@@ -27,9 +28,11 @@ const META: Meta = Meta {
     hash: 2,
 };
 
-// The function of the kind that spreads flows over five services.
-fn balance(alloc: Global) -> Result<Route, NoMemory> {
-    let services = ListOf::from_vec(Vec::from_slice(alloc, &[7, 8, 9, 10, 11])?);
+// The function of the kind that spreads flows over these services.
+fn balance(alloc: Global, numbers: &[u8]) -> Result<Route, NoMemory>
+    requires { 0 < length numbers.now }
+{
+    let services = ListOf::from_vec(Vec::from_slice(alloc, numbers)?);
     Route::make(alloc, &Kind::Balance { services })
 }
 
@@ -42,11 +45,11 @@ fn udp_packet(alloc: Global) -> Result<Packet, NoMemory> {
 
 #[test]
 fn the_flow_hash_picks_the_service(rt: HostRuntime) -> Result<(), Fail> {
-    let one = Services::make(rt.alloc(), &[1])?;
-    assert_eq!(rt; one.pick(84_696_351), 1);
-    let route = balance(rt.alloc())?;
-    assert_eq!(rt; route.verdict(&SHORT), Verdict::ToService(8));
-    assert_eq!(rt; route.verdict(&UDP), Verdict::ToService(11));
+    let one = balance(rt.alloc(), &[1])?;
+    assert_eq!(rt; one.verdict(&SHORT), Verdict::ToService(1));
+    let five = balance(rt.alloc(), &[7, 8, 9, 10, 11])?;
+    assert_eq!(rt; five.verdict(&SHORT), Verdict::ToService(8));
+    assert_eq!(rt; five.verdict(&UDP), Verdict::ToService(11));
     Ok(())
 }
 
@@ -54,7 +57,7 @@ fn the_flow_hash_picks_the_service(rt: HostRuntime) -> Result<(), Fail> {
 fn balanced_packets_leave_as_they_came(rt: HostRuntime) -> Result<(), Fail> {
     let mut first = udp_packet(rt.alloc())?;
     let mut second = Packet::from_slice(rt.alloc(), &SHORT)?;
-    let mut route = balance(rt.alloc())?;
+    let mut route = balance(rt.alloc(), &[7, 8, 9, 10, 11])?;
     let verdicts = packets_in_turn_are_a_journal(&mut route, &mut first, &mut second, &META)?;
     assert_eq!(rt; verdicts, (Verdict::ToService(11), Verdict::ToService(8)));
     let as_it_came = udp_packet(rt.alloc())?;
