@@ -14,7 +14,10 @@ pub record IsWithinLimits (frames : List Frame) : Type 0 where
 
 -- the text begins with a capture of more than a port takes
 abbrev pub PassesLimit : List ℕ → Type 0
-PassesLimit text = (used rest : List ℕ) × (frames : List Frame) × (text ≡ used ++ rest) × IsCapture used frames × ¬ (IsWithinLimits frames)
+PassesLimit text =
+    (used rest : List ℕ) × (frames : List Frame) × (text ≡ used ++ rest)
+    × IsCapture used frames
+    × ¬ (IsWithinLimits frames)
 
 -- the bytes of a header, of the frames that a port takes with their heads, and of one record more
 abbrev pub capture_limit : ℕ
