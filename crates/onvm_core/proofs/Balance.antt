@@ -263,7 +263,7 @@ mark_starts setting feeder (Full r) fresh frame may = refl
 mark_starts setting feeder (Empty a) fresh frame may = refl
 mark_starts setting feeder (Post a b) fresh frame may = refl
 
-mark_begins : (setting : Setting) (port : ℕ) (phase : ReceivePhase) (act : Act) → IsBetween phase → IsMark setting port act → begun_in (receive_after setting phase act) ≡ begun_in phase
+pub mark_begins : (setting : Setting) (port : ℕ) (phase : ReceivePhase) (act : Act) → IsBetween phase → IsMark setting port act → begun_in (receive_after setting phase act) ≡ begun_in phase
 mark_begins setting port (Between done) (Look (Cell a b) v told) between may = refl
 mark_begins setting port (Between done) (Look (PostWord f) v told) between may = absurd may
 mark_begins setting port (Between done) (Look (PoolWord f g) v told) between may = refl

@@ -4,7 +4,6 @@ use Rattle.std.specs.Prelude.{if◌then◌else◌, ◌==◌, nat_lt, slice_index
 use Rattle.std.proofs.lemmas.Bool.{cases_Bool, eq-eqb, eqb-true, lt-ltb, le-ltb}
 use Rattle.std.proofs.lemmas.List.{append-nil}
 use Rattle.onvm_base.specs.declared.ids.FnId.{FnId}
-use Rattle.onvm_base.specs.declared.ids.BufId.{BufId}
 use Rattle.onvm_base.specs.declared.ids.RingId.TheVariants.{Lane, Output, Mail}
 use Rattle.onvm_core.specs.declared.parcel.Parcel.{Parcel}
 use Rattle.onvm_core.specs.declared.step.Item.TheVariants.{Buffer, Number}
@@ -20,6 +19,8 @@ use Rattle.onvm_core.specs.Blocks.Kind.{Handles}
 use Rattle.onvm_core.specs.Journals.{journal, journal_of, handlings, last_popped}
 use Rattle.onvm_core.specs.Samples.{count_in, is_sampled, sampled_after, since_after, handled_since, mailed_count, lost_count, MaySample, AreSamples}
 use Rattle.onvm_core.proofs.Hands.{IsKind, is_kind}
+use Rattle.onvm_core.proofs.Lists.{if_met, if_unmet}
+use Rattle.onvm_core.specs.declared.step.Item.{Item}
 
 -- Journals
 
@@ -41,7 +42,7 @@ popped_still buf (Empty a) before h = h
 popped_still buf (Look a b c) before h = h
 popped_still buf (Post a b) before h = h
 
-some_hand : (a b : Hand) → Some a ≡ Some b → a ≡ b
+pub some_hand : (a b : Hand) → Some a ≡ Some b → a ≡ b
 some_hand a b e = cc
 
 hand_step : (act : Act) (before : Log) (hand : Hand) → handles act (core_hand before) ≡ Some hand → (core_hand before ≡ Some hand → WasPopped hand.buf before) → WasPopped hand.buf (act ∷ before)
@@ -68,17 +69,13 @@ hand_popped : (log : Log) (hand : Hand) → core_hand log ≡ Some hand → WasP
 hand_popped [] hand e = absurd (let off : None ≡ Some hand = e in cc)
 hand_popped (act ∷ before) hand e = hand_step act before hand e (hand_popped before hand)
 
-one_handling : (f g : FnId) (setting : Setting) (role : ℕ) (before : Log) (b : BufId) (parcel : Parcel) → MayHandle setting role before (Push (Output g) (Buffer b parcel)) → length (handlings f (Push (Output g) (Buffer b parcel)) before) ≡ (if g.0 == f.0 then 1 else 0)
-one_handling f g setting role before b parcel may =
+-- a push on the output ring adds an entry to the function's journal
+pub one_handling : (f g : FnId) (setting : Setting) (role : ℕ) (before : Log) (item : Item) → MayHandle setting role before (Push (Output g) item) → length (handlings f (Push (Output g) item) before) ≡ (if g.0 == f.0 then 1 else 0)
+one_handling f g setting role before (Number n) may = absurd may
+one_handling f g setting role before (Buffer b parcel) may =
     let was : WasPopped b.0 before = subst (λ (n : ℕ). WasPopped n before) may.same (hand_popped before may.hand may.held) in
     let found : last_popped b.0 before ≡ Some was.0 = was.1 in
     elim (cases_Bool (g.0 == f.0)) [ inl met ↦ rw (met, found) refl | inr unmet ↦ rw unmet refl ]
-
-chosen : (b : Bool) (x y : ℕ) → b ≡ true → (if b then x else y) ≡ x
-chosen b x y e = rw e refl
-
-other : (b : Bool) (x y : ℕ) → b ≡ false → (if b then x else y) ≡ y
-other b x y e = rw e refl
 
 -- Samples: what was mailed, what was lost, and what was handled since, are what was handled
 
@@ -96,12 +93,12 @@ Total f log = mailed_count f log + lost_count f log + handled_since f log
 
 sum_step : (f : FnId) (setting : Setting) (role : ℕ) (act : Act) (before : Log) → MayHandle setting role before act → MaySample before act → Total f before ≡ length (journal f before) → Total f (act ∷ before) ≡ length (journal f (act ∷ before))
 sum_step f setting role (Push (Output g) (Buffer b parcel)) before may samples e =
-    let more : length (handlings f (Push (Output g) (Buffer b parcel)) before) ≡ (if g.0 == f.0 then 1 else 0) = one_handling f g setting role before b parcel may in
+    let more : length (handlings f (Push (Output g) (Buffer b parcel)) before) ≡ (if g.0 == f.0 then 1 else 0) = one_handling f g setting role before (Buffer b parcel) may in
     let all : length (journal f (Push (Output g) (Buffer b parcel) ∷ before)) ≡ length (journal f before) + length (handlings f (Push (Output g) (Buffer b parcel)) before) = length-append (journal f before) (handlings f (Push (Output g) (Buffer b parcel)) before) in
     elim (cases_Bool (g.0 == f.0)) [
-      | inl met ↦ let one : length (handlings f (Push (Output g) (Buffer b parcel)) before) ≡ 1 = more ∙ chosen (g.0 == f.0) 1 0 met in
+      | inl met ↦ let one : length (handlings f (Push (Output g) (Buffer b parcel)) before) ≡ 1 = more ∙ if_met (g.0 == f.0) 1 0 met in
           let now : handled_since f (Push (Output g) (Buffer b parcel) ∷ before) ≡ handled_since f before + 1 = rw met refl in omega (arith, all, one, e, now)
-      | inr unmet ↦ let none : length (handlings f (Push (Output g) (Buffer b parcel)) before) ≡ 0 = more ∙ other (g.0 == f.0) 1 0 unmet in
+      | inr unmet ↦ let none : length (handlings f (Push (Output g) (Buffer b parcel)) before) ≡ 0 = more ∙ if_unmet (g.0 == f.0) 1 0 unmet in
           let now : handled_since f (Push (Output g) (Buffer b parcel) ∷ before) ≡ handled_since f before = rw unmet refl in omega (arith, all, none, e, now)
     ]
 sum_step f setting role (Push (Output g) (Number n)) before may samples e = absurd may

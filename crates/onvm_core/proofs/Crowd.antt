@@ -1,8 +1,8 @@
 -- A crowd: of five frames of a port with three buffers two stand in a lane, the third finds it full, the fourth goes to
 -- another function, and the fifth finds the pool empty. The steps are lawful and follow the pattern.
-use Rattle.std.proofs.Common.{◌≡◌, ℕ, zero, suc, ◌<◌, true, inl, inr, [], ◌∷◌, refl, subst, arith, Some, None}
+use Rattle.std.proofs.Common.{◌≡◌, ℕ, zero, suc, ◌<◌, inl, inr, [], ◌∷◌, refl, arith, Some, None}
 use Rattle.std.specs.Prelude.{◌==◌, IsBitSet, replicate}
-use Rattle.std.proofs.lemmas.Bool.{cases_Bool, eqb-true}
+use Rattle.std.proofs.lemmas.Bool.{cases_Bool}
 use Rattle.onvm_base.specs.declared.ids.BufId.{BufId}
 use Rattle.onvm_base.specs.declared.ids.FnId.{FnId}
 use Rattle.onvm_base.specs.declared.ids.PortId.{PortId}
@@ -20,7 +20,7 @@ use Rattle.onvm_core.specs.Logs.{Setting, entry_parcel, log_of}
 use Rattle.onvm_core.specs.Blocks.{AllOfBlocks, IsOfBlocks}
 use Rattle.onvm_core.proofs.Plans.{narrow}
 use Rattle.onvm_core.proofs.Walk.{by}
-use Rattle.onvm_core.proofs.WalkLogs.{no_bit}
+use Rattle.onvm_core.proofs.WalkLogs.{no_bit, at_role}
 
 -- one port, one transmit role, one core with two functions; three buffers, rings of two
 abbrev pub layout : Layout
@@ -344,15 +344,12 @@ receive_is = (
 lead_is : IsOfBlocks setting 4 (log_of 4 crowd)
 lead_is = (tt, tt)
 
-at_role : (n role : ℕ) → IsOfBlocks setting n (log_of n crowd) → (n == role) ≡ true → IsOfBlocks setting role (log_of role crowd)
-at_role n role is met = subst (λ r. IsOfBlocks setting r (log_of r crowd)) (eqb-true n role met) is
-
 pub crowd_follows : AllOfBlocks setting crowd
 crowd_follows role =
     elim (cases_Bool (0 == role)) [
-      | inl met ↦ at_role 0 role receive_is met
+      | inl met ↦ at_role setting crowd 0 role receive_is met
       | inr not_receive ↦ elim (cases_Bool (4 == role)) [
-        | inl met ↦ at_role 4 role lead_is met
+        | inl met ↦ at_role setting crowd 4 role lead_is met
         | inr not_lead ↦ rw (not_receive, not_lead) tt
       ]
     ]

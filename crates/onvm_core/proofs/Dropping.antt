@@ -1,6 +1,6 @@
 -- Each drop is the move's: a parcel that was popped from an output ring has its last crumb of that function.
-use Rattle.std.proofs.Common.{◌≡◌, ℕ, ◌-◌, inl, inr, List, [], ◌∷◌, ◌++◌, length, refl, sym, ◌∙◌, ap, subst, arith, Some}
-use Rattle.std.specs.Prelude.{slice_get, ◌==◌}
+use Rattle.std.proofs.Common.{◌≡◌, ℕ, inl, inr, [], ◌∷◌, ◌++◌, refl, sym, ◌∙◌, ap, subst, Some}
+use Rattle.std.specs.Prelude.{◌==◌}
 use Rattle.std.proofs.lemmas.Bool.{cases_Bool}
 use Rattle.onvm_base.specs.declared.ids.RingId.{RingId}
 use Rattle.onvm_base.specs.declared.ids.RingId.TheVariants.{Lane, Output, Mail}
@@ -31,10 +31,10 @@ use Rattle.onvm_core.specs.Blocks.{Kind, kind_of, MayFollow, AllOfBlocks}
 use Rattle.onvm_core.specs.Blocks.Kind.{Receives, Sends, Handles, Ticks, Leads}
 use Rattle.onvm_core.specs.Earned.{IsDropped}
 use Rattle.onvm_core.proofs.Contents.{same_ring_is, content_moves}
-use Rattle.std.proofs.lemmas.List.{length_push}
 use Rattle.onvm_core.proofs.Balance.{blocks_before}
 use Rattle.onvm_core.proofs.Loads.{Each, Each-append, Each_right, first_of}
 use Rattle.onvm_core.proofs.Earning.{acting}
+use Rattle.onvm_core.proofs.Lists.{last_of_push}
 
 -- the parcel's last crumb is of the function
 abbrev pub HasLast : FnId → Parcel → Type 0
@@ -45,15 +45,6 @@ WasHandled (Output f) (Buffer b parcel) = HasLast f parcel
 WasHandled (Output f) (Number n) = Unit {0}
 WasHandled (Lane f feeder) item = Unit {0}
 WasHandled (Mail f) item = Unit {0}
-
-get_last : {A : Type 0} (xs : List A) (x : A) → slice_get (xs ++ x ∷ []) (length xs) ≡ Some x
-get_last [] x = refl
-get_last (y ∷ xs) x = get_last xs x
-
-last_of_push : (trail : List Crumb) (crumb : Crumb) → last_crumb (trail ++ crumb ∷ []) ≡ Some crumb
-last_of_push trail crumb =
-    let n : length (trail ++ crumb ∷ []) - 1 ≡ length trail = omega (arith, length_push trail crumb) in
-    rw n (get_last trail crumb)
 
 handled_last : (f : FnId) (place : ℕ) (was parcel : Parcel) → IsHandled f place was parcel → HasLast f parcel
 handled_last f place was parcel handled =

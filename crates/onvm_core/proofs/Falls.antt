@@ -37,10 +37,7 @@ use Rattle.onvm_core.proofs.Hands.{is_kind, IsKind}
 use Rattle.onvm_core.proofs.Loads.{IsAt, content_at, first_of}
 use Rattle.onvm_core.proofs.Hands.{HasTaken, HasHand, HasSend, receive_has, core_has, send_has}
 use Rattle.onvm_core.proofs.Balance.{own_blocks, starts, own_begins, kind_receives, kind_other, other_starts, within_of}
-
-sum_same : (f g : ℕ → ℕ) (n : ℕ) → ((k : ℕ) → f k ≡ g k) → sum_below f n ≡ sum_below g n
-sum_same f g zero h = refl
-sum_same f g (suc n) h = rw (h n, sum_same f g n h) refl
+use Rattle.onvm_core.proofs.Sums.{sum_same}
 
 sum_apart : (f g : ℕ → ℕ) (n x : ℕ) → n ≤ x → ((k : ℕ) → (k ≡ x → ⊥) → f k ≡ g k) → sum_below f n ≡ sum_below g n
 sum_apart f g zero x le h = refl
@@ -153,14 +150,14 @@ buffers_step layout role fresh (Push r (Buffer b parcel)) places loads n facts =
 buffers_step layout role fresh (Pop r (Buffer b parcel)) places loads n facts =
     let now : heavy_after layout role fresh (Pop r (Buffer b parcel)) places loads b.0 ≡ weight layout (Role role) (Some (Loaded parcel)) = rw (eq-eqb b.0 b.0 refl) refl in
     omega (arith, sum_falls (heavy_after layout role fresh (Pop r (Buffer b parcel)) places loads) (λ buf. weight layout (places buf) (loads buf)) n b.0 (λ k apart. rw (ne_eqb b.0 k (λ e. apart (sym e))) refl) (omega (arith, now, facts)))
-buffers_step layout role fresh (Push r (Number m)) places loads n facts = omega (arith, sum_same (heavy_after layout role fresh (Push r (Number m)) places loads) (λ buf. weight layout (places buf) (loads buf)) n (λ k. refl))
-buffers_step layout role fresh (Pop r (Number m)) places loads n facts = omega (arith, sum_same (heavy_after layout role fresh (Pop r (Number m)) places loads) (λ buf. weight layout (places buf) (loads buf)) n (λ k. refl))
-buffers_step layout role fresh (Split a) places loads n facts = omega (arith, sum_same (heavy_after layout role fresh (Split a) places loads) (λ buf. weight layout (places buf) (loads buf)) n (λ k. refl))
-buffers_step layout role fresh (Join a) places loads n facts = omega (arith, sum_same (heavy_after layout role fresh (Join a) places loads) (λ buf. weight layout (places buf) (loads buf)) n (λ k. refl))
-buffers_step layout role fresh (Full a) places loads n facts = omega (arith, sum_same (heavy_after layout role fresh (Full a) places loads) (λ buf. weight layout (places buf) (loads buf)) n (λ k. refl))
-buffers_step layout role fresh (Empty a) places loads n facts = omega (arith, sum_same (heavy_after layout role fresh (Empty a) places loads) (λ buf. weight layout (places buf) (loads buf)) n (λ k. refl))
-buffers_step layout role fresh (Look x y z) places loads n facts = omega (arith, sum_same (heavy_after layout role fresh (Look x y z) places loads) (λ buf. weight layout (places buf) (loads buf)) n (λ k. refl))
-buffers_step layout role fresh (Post x y) places loads n facts = omega (arith, sum_same (heavy_after layout role fresh (Post x y) places loads) (λ buf. weight layout (places buf) (loads buf)) n (λ k. refl))
+buffers_step layout role fresh (Push r (Number m)) places loads n facts = omega (arith, sum_same (heavy_after layout role fresh (Push r (Number m)) places loads) (λ buf. weight layout (places buf) (loads buf)) n (λ k less. refl))
+buffers_step layout role fresh (Pop r (Number m)) places loads n facts = omega (arith, sum_same (heavy_after layout role fresh (Pop r (Number m)) places loads) (λ buf. weight layout (places buf) (loads buf)) n (λ k less. refl))
+buffers_step layout role fresh (Split a) places loads n facts = omega (arith, sum_same (heavy_after layout role fresh (Split a) places loads) (λ buf. weight layout (places buf) (loads buf)) n (λ k less. refl))
+buffers_step layout role fresh (Join a) places loads n facts = omega (arith, sum_same (heavy_after layout role fresh (Join a) places loads) (λ buf. weight layout (places buf) (loads buf)) n (λ k less. refl))
+buffers_step layout role fresh (Full a) places loads n facts = omega (arith, sum_same (heavy_after layout role fresh (Full a) places loads) (λ buf. weight layout (places buf) (loads buf)) n (λ k less. refl))
+buffers_step layout role fresh (Empty a) places loads n facts = omega (arith, sum_same (heavy_after layout role fresh (Empty a) places loads) (λ buf. weight layout (places buf) (loads buf)) n (λ k less. refl))
+buffers_step layout role fresh (Look x y z) places loads n facts = omega (arith, sum_same (heavy_after layout role fresh (Look x y z) places loads) (λ buf. weight layout (places buf) (loads buf)) n (λ k less. refl))
+buffers_step layout role fresh (Post x y) places loads n facts = omega (arith, sum_same (heavy_after layout role fresh (Post x y) places loads) (λ buf. weight layout (places buf) (loads buf)) n (λ k less. refl))
 
 no_pop : (setting : Setting) (port : ℕ) (e : Entry) (phase : ReceivePhase) (act : Act) (ring : RingId) (item : Item) → act ≡ Pop ring item → MayReceiveFor setting port e phase act → ⊥
 no_pop setting port e (Between done) act ring item same may = subst (MayReceiveFor setting port e (Between done)) same may

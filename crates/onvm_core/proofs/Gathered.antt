@@ -13,7 +13,7 @@ use Rattle.onvm_core.specs.History.{History, place_of}
 use Rattle.onvm_core.specs.Lawful.{IsLawful}
 use Rattle.onvm_core.specs.Places.{same_place}
 use Rattle.onvm_core.specs.Logs.{Setting, Log, feeders, log_of, of_port}
-use Rattle.onvm_core.specs.Receiving.{ReceivePhase, asked, sought, receive_after, receive_phase, done_in, IsBetween, IsMark}
+use Rattle.onvm_core.specs.Receiving.{ReceivePhase, asked, sought, receive_after, receive_phase, done_in}
 use Rattle.onvm_core.specs.Receiving.ReceivePhase.{Between, Asks, Seeks, Sees, Took, Barred}
 use Rattle.onvm_core.specs.Blocks.{Kind, kind_of, AllOfBlocks}
 use Rattle.onvm_core.specs.Blocks.Kind.{Receives, Sends, Handles, Ticks, Leads}
@@ -21,7 +21,7 @@ use Rattle.onvm_core.specs.Frames.{begun_in}
 use Rattle.onvm_core.specs.Potential.{sum_below, waiting, potential, outside, ring_weight, function_weight, hand_weight, potential_of_logs}
 use Rattle.onvm_core.proofs.Loads.{pool_load}
 use Rattle.onvm_core.proofs.Hands.{IsKind, is_kind}
-use Rattle.onvm_core.proofs.Balance.{kind_receives, kind_other, within_of}
+use Rattle.onvm_core.proofs.Balance.{kind_receives, kind_other, within_of, mark_begins}
 use Rattle.onvm_core.proofs.Sums.{pick, sum_same, sum_zero, sum_none, sum_plus, sum_pick, sum_pick_under, sum_extend, sum_more, sum_regroup}
 use Rattle.onvm_core.proofs.Logged.{Known, place_known, heft, ring_weighs}
 use Rattle.onvm_core.proofs.Holders.{taken_weight, taken_by, role_weighs, holder_below}
@@ -190,32 +190,12 @@ begun_more setting (Barred done buf ring) (Empty a) = omega arith
 begun_more setting (Barred done buf ring) (Look w v t) = omega arith
 begun_more setting (Barred done buf ring) (Post a b) = omega arith
 
-mark_keeps : (setting : Setting) (port : ℕ) (phase : ReceivePhase) (act : Act) → IsBetween phase → IsMark setting port act → begun_in (receive_after setting phase act) ≡ begun_in phase
-mark_keeps setting port (Between done) (Take b) between may = refl
-mark_keeps setting port (Between done) (Give b outcome parcel) between may = refl
-mark_keeps setting port (Between done) (Push r i) between may = refl
-mark_keeps setting port (Between done) (Pop r i) between may = refl
-mark_keeps setting port (Between done) (Split a) between may = refl
-mark_keeps setting port (Between done) (Join a) between may = refl
-mark_keeps setting port (Between done) (Full r) between may = refl
-mark_keeps setting port (Between done) (Empty a) between may = refl
-mark_keeps setting port (Between done) (Look (PostWord f) v t) between may = absurd may
-mark_keeps setting port (Between done) (Look (PoolWord f g) v t) between may = refl
-mark_keeps setting port (Between done) (Look (Cell f g) v t) between may = refl
-mark_keeps setting port (Between done) (Look (Weight f) v t) between may = refl
-mark_keeps setting port (Between done) (Post a b) between may = refl
-mark_keeps setting port (Asks done k) act between may = absurd between
-mark_keeps setting port (Seeks done k) act between may = absurd between
-mark_keeps setting port (Sees done index seen) act between may = absurd between
-mark_keeps setting port (Took done buf) act between may = absurd between
-mark_keeps setting port (Barred done buf ring) act between may = absurd between
-
 -- no block begins without a frame
 begun_within : (setting : Setting) (port : ℕ) (log : Log) → IsKind setting port Receives log → begun_in (receive_phase setting log) ≤ length (of_port port setting.entries)
 begun_within setting port [] h = omega arith
 begun_within setting port (act ∷ before) h =
     elim h.0 [
-      | inl mark ↦ omega (arith, begun_within setting port before h.1, mark_keeps setting port (receive_phase setting before) act mark.0 mark.1)
+      | inl mark ↦ omega (arith, begun_within setting port before h.1, mark_begins setting port (receive_phase setting before) act mark.0 mark.1)
       | inr block ↦ omega (arith, begun_more setting (receive_phase setting before) act, within_of (of_port port setting.entries) (done_in (receive_phase setting before)) block.0 block.1)
     ]
 

@@ -3,7 +3,7 @@
 -- rules of marks passes.
 use Rattle.std.proofs.Common.{◌≡◌, ℕ, zero, suc, ◌/◌, ◌%◌, ◌^◌, true, false, inl, inr, [], ◌∷◌, refl, sym, ◌∙◌, subst, arith, Option, Some, None}
 use Rattle.std.specs.Prelude.{◌==◌, IsBitSet, slice_get}
-use Rattle.std.proofs.lemmas.Bool.{cases_Bool, eqb-true, ne_eqb}
+use Rattle.std.proofs.lemmas.Bool.{cases_Bool, ne_eqb}
 use Rattle.std.proofs.lemmas.Nat.{pow_pos}
 use Rattle.std.proofs.Math.Nat.{zero-div, div-eq_of_lt}
 use Rattle.onvm_base.specs.declared.ids.RingId.TheVariants.{Lane, Output}
@@ -32,7 +32,7 @@ use Rattle.onvm_core.specs.Earned.{IsEarnedThrottle}
 use Rattle.onvm_core.specs.Earned.IsRaised.{ByPost}
 use Rattle.onvm_core.proofs.Plans.{hasty}
 use Rattle.onvm_core.proofs.Walk.{by}
-use Rattle.onvm_core.proofs.WalkLogs.{no_bit}
+use Rattle.onvm_core.proofs.WalkLogs.{no_bit, at_role}
 use Rattle.onvm_core.proofs.Crowd.{layout, port, f, b0, b1, e1, e2, e3, e4, setting, bit_7_0, bit_6_1, lowest_7, lowest_6}
 
 -- the parcel after the function answered Next
@@ -326,17 +326,14 @@ receive_is = (
 lead_is : IsOfBlocks setting 4 (log_of 4 whole)
 lead_is = (tt, (tt, tt))
 
-at_role : (n role : ℕ) → IsOfBlocks setting n (log_of n whole) → (n == role) ≡ true → IsOfBlocks setting role (log_of role whole)
-at_role n role is met = subst (λ r. IsOfBlocks setting r (log_of r whole)) (eqb-true n role met) is
-
 pub whole_follows : AllOfBlocks setting whole
 whole_follows role =
     elim (cases_Bool (0 == role)) [
-      | inl met ↦ at_role 0 role receive_is met
+      | inl met ↦ at_role setting whole 0 role receive_is met
       | inr not_receive ↦ elim (cases_Bool (2 == role)) [
-        | inl met ↦ at_role 2 role core_is met
+        | inl met ↦ at_role setting whole 2 role core_is met
         | inr not_core ↦ elim (cases_Bool (4 == role)) [
-          | inl met ↦ at_role 4 role lead_is met
+          | inl met ↦ at_role setting whole 4 role lead_is met
           | inr not_lead ↦ rw (not_receive, not_core, not_lead) tt
         ]
       ]

@@ -2,12 +2,8 @@
 use Rattle.std.proofs.Common.{◌≡◌, ℕ, ◌+◌, ◌*◌, ◌<◌, ◌≤◌, Bool, true, false, inl, inr, [], ◌∷◌, refl, sym, ◌∙◌, ap, subst, arith, Option, Some, None}
 use Rattle.std.specs.Prelude.{◌==◌, nat_lt, unwrap_or}
 use Rattle.std.proofs.lemmas.Bool.{cases_Bool, eqb-true, eqb-false, eq-eqb, le-ltb, ltb-true, ltb-false}
-use Rattle.onvm_base.specs.declared.ids.RingId.{RingId}
-use Rattle.onvm_base.specs.declared.ids.RingId.TheVariants.{Lane, Output, Mail}
-use Rattle.onvm_base.specs.declared.ids.BufId.{BufId}
 use Rattle.onvm_base.specs.declared.ids.FrameId.{FrameId}
 use Rattle.onvm_core.specs.declared.layout.Layout.{Layout}
-use Rattle.onvm_core.specs.declared.parcel.Parcel.{Parcel}
 use Rattle.onvm_core.specs.declared.step.Item.TheVariants.{Buffer, Number}
 use Rattle.onvm_core.specs.declared.step.Act.{Act}
 use Rattle.onvm_core.specs.declared.step.Act.TheVariants.{Split, Join, Take, Give, Push, Full, Pop, Empty, Look, Post}
@@ -15,7 +11,7 @@ use Rattle.onvm_core.specs.declared.place.Place.{Place}
 use Rattle.onvm_core.specs.declared.place.Place.TheVariants.{Pool, Ring, Role}
 use Rattle.onvm_core.specs.Layouts.{IsBuffer}
 use Rattle.onvm_core.specs.History.{History, place_of, puts}
-use Rattle.onvm_core.specs.Lawful.{AllowsAct, IsLawful, Suits}
+use Rattle.onvm_core.specs.Lawful.{AllowsAct, IsLawful}
 use Rattle.onvm_core.specs.Places.{same_place}
 use Rattle.onvm_core.specs.Logs.{Setting, Log, Hand, log_of}
 use Rattle.onvm_core.specs.Receiving.{ReceivePhase, receive_phase}
@@ -28,7 +24,7 @@ use Rattle.onvm_core.specs.Blocks.Kind.{Receives, Sends, Handles, Ticks, Leads}
 use Rattle.onvm_core.specs.Frames.{Load, block_frame}
 use Rattle.onvm_core.specs.Frames.Load.{Fresh, Loaded}
 use Rattle.onvm_core.specs.Potential.{sum_below, weight, is_sender, core_weight, send_weight, hand_weight}
-use Rattle.onvm_core.proofs.Once.{same_place_is}
+use Rattle.onvm_core.proofs.Once.{same_place_is, suits_holder}
 use Rattle.onvm_core.proofs.Loads.{own_load, own_load_after, own_load_is, some_pair, HasLoad}
 use Rattle.onvm_core.proofs.Hands.{is_kind}
 use Rattle.onvm_core.proofs.Balance.{blocks_before}
@@ -107,14 +103,9 @@ foreign_keeps role other buf (Empty a) was apart e = e
 foreign_keeps role other buf (Look a b c) was apart e = e
 foreign_keeps role other buf (Post a b) was apart e = e
 
-pushes_own : (layout : Layout) (before : History) (role : ℕ) (r : RingId) (b : BufId) (parcel : Parcel) → Suits layout before role r (Buffer b parcel) → place_of b.0 before ≡ Role role
-pushes_own layout before role (Lane f feeder) b parcel suits = suits.0.holder
-pushes_own layout before role (Output f) b parcel suits = suits.0.holder
-pushes_own layout before role (Mail f) b parcel suits = absurd suits
-
 lets_own : (layout : Layout) (before : History) (role : ℕ) (act : Act) (own : Option (ℕ × Load)) → AllowsAct layout before role act → ((buf : ℕ) → place_of buf before ≡ Role role → Says own buf) → LetsOwn own act
 lets_own layout before role (Give b outcome parcel) own allowed earlier = earlier b.0 allowed.holds.holder
-lets_own layout before role (Push r (Buffer b parcel)) own allowed earlier = earlier b.0 (pushes_own layout before role r b parcel allowed.suits)
+lets_own layout before role (Push r (Buffer b parcel)) own allowed earlier = earlier b.0 (suits_holder layout before role r b parcel allowed.suits)
 lets_own layout before role (Push r (Number n)) own allowed earlier = tt
 lets_own layout before role (Take b) own allowed earlier = tt
 lets_own layout before role (Pop r i) own allowed earlier = tt

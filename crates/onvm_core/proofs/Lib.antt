@@ -10,6 +10,7 @@ pub mod Gathered
 pub mod Hands
 pub mod Held
 pub mod Holders
+pub mod Lists
 pub mod Loads
 pub mod Logged
 pub mod Marked

@@ -17,6 +17,7 @@ use Rattle.onvm_core.specs.Marks.{Want, Pass, Marks, Ages, Standing, posts_in, l
 use Rattle.onvm_core.specs.Marks.Mark.{Passed, Posted}
 use Rattle.onvm_core.specs.Earned.{IsRaised, IsRaisedUpToNow, Clears, ClearsAtOnce, IsDue, IsPostWithout, IsLaneLook}
 use Rattle.onvm_core.specs.Earned.IsRaised.{ByPost, ByAnotherPost, ByPass}
+use Rattle.onvm_core.proofs.Lists.{if_met, if_unmet}
 
 -- Bits
 
@@ -210,15 +211,9 @@ look_posts [] seen was = refl
 look_posts (w ∷ []) seen was = refl
 look_posts (w ∷ v ∷ ws) seen was = refl
 
-same_value : (b : Bool) (x y : ℕ) → b ≡ true → (if b then x else y) ≡ x
-same_value b x y e = rw e refl
-
-other_value : (b : Bool) (x y : ℕ) → b ≡ false → (if b then x else y) ≡ y
-other_value b x y e = rw e refl
-
 own_post : (setting : Setting) (feeder : ℕ) (before : History) (log : Log) (act : Act) (was : Standing) (n : ℕ) → IsFeeder setting.layout feeder → AllowsAct setting.layout before feeder act → n ≡ last_post was.marks → post_or (PostWord feeder) act n ≡ last_post (stands_after setting feeder act log was).marks
 own_post setting feeder before log (Look (Cell (Lane f p) at) seen told) was n known allowed e = e ∙ look_posts (next_looks setting feeder log was.left) seen was
-own_post setting feeder before log (Post (PostWord x) value) was n known allowed e = same_value (x == feeder) value n (eq-eqb x feeder (sym allowed.1))
+own_post setting feeder before log (Post (PostWord x) value) was n known allowed e = if_met (x == feeder) value n (eq-eqb x feeder (sym allowed.1))
 own_post setting feeder before log (Post (Weight g) value) was n known allowed e = absurd (omega (arith, known, allowed.1))
 own_post setting feeder before log (Post (PoolWord a b) value) was n known allowed e = absurd allowed
 own_post setting feeder before log (Post (Cell a b) value) was n known allowed e = absurd allowed
@@ -238,7 +233,7 @@ own_post setting feeder before log (Empty a) was n known allowed e = e
 
 other_post : (layout : Layout) (role feeder : ℕ) (before : History) (act : Act) (n : ℕ) → AllowsAct layout before role act → (role == feeder) ≡ false → post_or (PostWord feeder) act n ≡ n
 other_post layout role feeder before (Post (PostWord x) value) n allowed foreign =
-    other_value (x == feeder) value n (subst (λ (r : ℕ). (r == feeder) ≡ false) allowed.1 foreign)
+    if_unmet (x == feeder) value n (subst (λ (r : ℕ). (r == feeder) ≡ false) allowed.1 foreign)
 other_post layout role feeder before (Post (Weight g) value) n allowed foreign = refl
 other_post layout role feeder before (Post (PoolWord a b) value) n allowed foreign = refl
 other_post layout role feeder before (Post (Cell a b) value) n allowed foreign = refl

@@ -83,7 +83,7 @@ source role (Take b) = Pool
 source role (Pop ring item) = Ring ring
 source role _ = Role role
 
-suits_holder : (layout : Layout) (past : History) (role : ℕ) (ring : RingId) (b : BufId) (parcel : Parcel) → Suits layout past role ring (Buffer b parcel) → place_of b.0 past ≡ Role role
+pub suits_holder : (layout : Layout) (past : History) (role : ℕ) (ring : RingId) (b : BufId) (parcel : Parcel) → Suits layout past role ring (Buffer b parcel) → place_of b.0 past ≡ Role role
 suits_holder layout past role (Lane f feeder) b parcel suits = suits.0.holder
 suits_holder layout past role (Output f) b parcel suits = suits.0.holder
 suits_holder layout past role (Mail f) b parcel suits = absurd suits

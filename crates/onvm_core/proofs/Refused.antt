@@ -1,20 +1,18 @@
 -- Acts that the pattern of a log refuses, one for each of its parts that no law needs.
-use Rattle.std.proofs.Common.{◌≡◌, ℕ, ◌<◌, zero, suc, Bool, true, false, inl, inr, List, [], ◌∷◌, refl, sym, ◌∙◌, arith, Option, Some, None}
-use Rattle.std.specs.Prelude.{IsBitSet}
+use Rattle.std.proofs.Common.{◌≡◌, ℕ, ◌<◌, suc, [], ◌∷◌, refl, arith, Some, None}
 use Rattle.onvm_base.specs.declared.ids.RingId.TheVariants.{Lane, Output}
 use Rattle.onvm_base.specs.declared.outcome.Outcome.TheVariants.{Sent, Dropped}
 use Rattle.onvm_base.specs.declared.outcome.Why.TheVariants.{Asked}
-use Rattle.onvm_base.specs.declared.ids.FnId.{FnId}
 use Rattle.onvm_core.specs.declared.layout.Word.TheVariants.{Pool as PoolWord, Cell, Post as PostWord, Weight}
 use Rattle.onvm_core.specs.declared.step.Act.{Act}
 use Rattle.onvm_core.specs.declared.step.Act.TheVariants.{Split, Join, Take, Give, Push, Full, Pop, Empty, Look, Post}
 use Rattle.onvm_core.specs.declared.step.Item.TheVariants.{Buffer}
-use Rattle.onvm_core.specs.Logs.{Log, Setting, Hand, entry_parcel}
-use Rattle.onvm_core.specs.Receiving.{MayReceiveFor, ReceivePhase}
+use Rattle.onvm_core.specs.Logs.{Log, Hand, entry_parcel}
+use Rattle.onvm_core.specs.Receiving.{MayReceiveFor}
 use Rattle.onvm_core.specs.Receiving.ReceivePhase.{Between, Sees}
-use Rattle.onvm_core.specs.Handling.{MayHandle, SawRoom, budget, is_push_on}
+use Rattle.onvm_core.specs.Handling.{MayHandle, SawRoom, budget}
 use Rattle.onvm_core.specs.Handling.SawRoom.{ByLook, Since}
-use Rattle.onvm_core.specs.Sending.{MaySend, SendPhase}
+use Rattle.onvm_core.specs.Sending.{MaySend}
 use Rattle.onvm_core.specs.Sending.SendPhase.{Moves}
 use Rattle.onvm_core.proofs.Plans.{hasty, smallest}
 use Rattle.onvm_core.proofs.Crowd.{setting, f, b0, b1, e1, e3}

@@ -1,5 +1,5 @@
 -- A core's log with a sample that is mailed and one that is lost, and a sample that counts too many.
-use Rattle.std.proofs.Common.{◌≡◌, ℕ, ◌<◌, true, List, [], ◌∷◌, refl, arith}
+use Rattle.std.proofs.Common.{◌≡◌, true, [], ◌∷◌, refl, arith}
 use Rattle.onvm_base.specs.declared.ids.RingId.TheVariants.{Output, Mail}
 use Rattle.onvm_core.specs.declared.step.Act.TheVariants.{Push, Full}
 use Rattle.onvm_core.specs.declared.step.Item.TheVariants.{Buffer, Number}

@@ -1,14 +1,13 @@
 -- The crumbs of each parcel lead from the captured bytes to its own.
-use Rattle.std.proofs.Common.{◌≡◌, ℕ, ◌+◌, ◌-◌, ◌≤◌, zero, suc, Bool, true, false, ◌⊎◌, inl, inr, List, [], ◌∷◌, ◌++◌, length, refl, sym, ◌∙◌, ap, subst, arith, Option, Some, None}
+use Rattle.std.proofs.Common.{◌≡◌, ℕ, ◌+◌, ◌≤◌, ◌⊎◌, inl, inr, List, [], ◌∷◌, ◌++◌, length, refl, sym, ◌∙◌, ap, subst, arith, Option, Some, None}
 use Rattle.std.specs.Prelude.{slice_get, if◌then◌else◌, ◌==◌}
 use Rattle.std.proofs.lemmas.Bool.{cases_Bool, eq-eqb}
 use Rattle.onvm_base.specs.declared.ids.RingId.{RingId}
 use Rattle.onvm_base.specs.declared.ids.BufId.{BufId}
 use Rattle.onvm_base.specs.declared.ids.FnId.{FnId}
-use Rattle.std.proofs.lemmas.List.{length_push, append-nil}
+use Rattle.std.proofs.lemmas.List.{append-nil}
 use Rattle.onvm_base.specs.declared.ids.FrameId.{FrameId}
 use Rattle.onvm_core.specs.declared.parcel.Parcel.{Parcel}
-use Rattle.onvm_core.specs.declared.step.Item.{Item}
 use Rattle.onvm_core.specs.declared.step.Item.TheVariants.{Buffer, Number}
 use Rattle.onvm_core.specs.declared.step.Act.{Act}
 use Rattle.onvm_core.specs.declared.step.Act.TheVariants.{Split, Join, Take, Give, Push, Full, Pop, Empty, Look, Post}
@@ -39,22 +38,10 @@ use Rattle.std.specs.Prelude.{min}
 use Rattle.std.proofs.lemmas.Option.{slice_get_within}
 use Rattle.onvm_core.proofs.Hands.{HasHand, HasSend, core_has, send_has}
 use Rattle.onvm_core.proofs.Balance.{own_blocks, blocks_before}
+use Rattle.onvm_core.proofs.Lists.{get_front, get_last, last_of_push, if_met, if_unmet}
+use Rattle.onvm_core.proofs.Counted.{one_handling, some_hand}
 
 -- Lists
-
-get_more : {A : Type 0} (xs ys : List A) (k : ℕ) (x : A) → slice_get xs k ≡ Some x → slice_get (xs ++ ys) k ≡ Some x
-get_more [] ys k x e = absurd (cc)
-get_more (y ∷ xs) ys zero x e = e
-get_more (y ∷ xs) ys (suc k) x e = get_more xs ys k x e
-
-get_last : {A : Type 0} (xs : List A) (x : A) → slice_get (xs ++ x ∷ []) (length xs) ≡ Some x
-get_last [] x = refl
-get_last (y ∷ xs) x = get_last xs x
-
-last_of_push : (trail : List Crumb) (crumb : Crumb) → last_crumb (trail ++ crumb ∷ []) ≡ Some crumb
-last_of_push trail crumb =
-    let n : length (trail ++ crumb ∷ []) - 1 ≡ length trail = omega (arith, length_push trail crumb) in
-    rw n (get_last trail crumb)
 
 -- Trails
 
@@ -72,7 +59,7 @@ leads_on journals frame input (c ∷ cs) middle output crumb h leads found of ve
 journal_grows : (setting : Setting) (step : Step) (before : History) (f : FnId) (k : ℕ) (h : Handling) → slice_get (journal_of setting before f) k ≡ Some h → slice_get (journal_of setting (step ∷ before) f) k ≡ Some h
 journal_grows setting step before f k h e =
     elim (cases_Bool (step.role == core_role setting.layout f.0)) [
-      | inl met ↦ rw met (get_more (journal_of setting before f) (handlings f step.act (log_of (core_role setting.layout f.0) before)) k h e)
+      | inl met ↦ rw met (get_front (journal_of setting before f) (handlings f step.act (log_of (core_role setting.layout f.0) before)) k h e)
       | inr unmet ↦ rw unmet e
     ]
 
@@ -85,9 +72,6 @@ traced_on setting step before parcel traced = record {
   frame = traced.frame;
   leads = leads_more (journal_of setting before) (journal_of setting (step ∷ before)) parcel.frame traced.entry.packet parcel.trail parcel.packet (journal_grows setting step before) traced.leads;
 }
-
-some_hand : (a b : Hand) → Some a ≡ Some b → a ≡ b
-some_hand a b e = cc
 
 -- a core pops nothing while it has a parcel in hand
 kept_hand : (setting : Setting) (role : ℕ) (before : Log) (act : Act) (buf : ℕ) (hand : Hand) → MayHandle setting role before act → handles act (core_hand before) ≡ Some hand → hand.buf ≡ buf → (core_hand before ≡ Some hand → last_popped buf before ≡ Some hand.parcel) → popped_or buf act (last_popped buf before) ≡ Some hand.parcel
@@ -115,27 +99,14 @@ popped_in_hand setting role [] buf hand kind e of = absurd (let off : None ≡ S
 popped_in_hand setting role (act ∷ before) buf hand kind e of =
     kept_hand setting role before act buf hand kind.0 e of (λ was. popped_in_hand setting role before buf hand kind.1 was of)
 
--- a journal has an entry for each push on the output ring
-one_handling : (f g : FnId) (setting : Setting) (role : ℕ) (before : Log) (item : Item) → IsKind setting role Handles before → MayHandle setting role before (Push (Output g) item) → length (handlings f (Push (Output g) item) before) ≡ (if g.0 == f.0 then 1 else 0)
-one_handling f g setting role before (Buffer b parcel) kind may =
-    let was : last_popped b.0 before ≡ Some may.hand.parcel = popped_in_hand setting role before b.0 may.hand kind may.held may.same in
-    elim (cases_Bool (g.0 == f.0)) [ inl met ↦ rw (met, was) refl | inr unmet ↦ rw unmet refl ]
-one_handling f g setting role before (Number n) kind may = absurd may
-
-cond_met : (b : Bool) (x y : ℕ) → b ≡ true → (if b then x else y) ≡ x
-cond_met b x y e = rw e refl
-
-cond_unmet : (b : Bool) (x y : ℕ) → b ≡ false → (if b then x else y) ≡ y
-cond_unmet b x y e = rw e refl
-
 journal_step : (f : FnId) (setting : Setting) (role : ℕ) (before : Log) (act : Act) → IsKind setting role Handles before → MayHandle setting role before act → length (journal f before) ≡ push_count (Output f) before → length (journal f (act ∷ before)) ≡ push_count (Output f) (act ∷ before)
 journal_step f setting role before (Push (Output g) item) kind may e =
-    let more : length (handlings f (Push (Output g) item) before) ≡ (if g.0 == f.0 then 1 else 0) = one_handling f g setting role before item kind may in
+    let more : length (handlings f (Push (Output g) item) before) ≡ (if g.0 == f.0 then 1 else 0) = one_handling f g setting role before item may in
     let all : length (journal f (Push (Output g) item ∷ before)) ≡ length (journal f before) + length (handlings f (Push (Output g) item) before) = length-append (journal f before) (handlings f (Push (Output g) item) before) in
     elim (cases_Bool (g.0 == f.0)) [
-      | inl met ↦ let one : length (handlings f (Push (Output g) item) before) ≡ 1 = more ∙ cond_met (g.0 == f.0) 1 0 met in
+      | inl met ↦ let one : length (handlings f (Push (Output g) item) before) ≡ 1 = more ∙ if_met (g.0 == f.0) 1 0 met in
           let now : push_count (Output f) (Push (Output g) item ∷ before) ≡ push_count (Output f) before + 1 = rw met refl in omega (arith, all, one, e, now)
-      | inr unmet ↦ let none : length (handlings f (Push (Output g) item) before) ≡ 0 = more ∙ cond_unmet (g.0 == f.0) 1 0 unmet in
+      | inr unmet ↦ let none : length (handlings f (Push (Output g) item) before) ≡ 0 = more ∙ if_unmet (g.0 == f.0) 1 0 unmet in
           let now : push_count (Output f) (Push (Output g) item ∷ before) ≡ push_count (Output f) before = rw unmet refl in omega (arith, all, none, e, now)
     ]
 journal_step f setting role before (Take b) kind may e = ap length (append-nil (journal f before)) ∙ e
