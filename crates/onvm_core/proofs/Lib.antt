@@ -1,4 +1,5 @@
 pub mod Balance
+pub mod Begun
 pub mod Contents
 pub mod Cores
 pub mod Counted
@@ -9,6 +10,7 @@ pub mod Falls
 pub mod Gathered
 pub mod Hands
 pub mod Held
+pub mod HeldSteps
 pub mod Holders
 pub mod Lists
 pub mod Loads

@@ -16,7 +16,8 @@ use Rattle.onvm_core.specs.Sending.{MaySend}
 use Rattle.onvm_core.specs.Sending.SendPhase.{Moves}
 use Rattle.onvm_core.proofs.Plans.{hasty, smallest}
 use Rattle.onvm_core.proofs.Crowd.{setting, f, b0, b1, e1, e3}
-use Rattle.onvm_core.proofs.Held.{handled, raises_f}
+use Rattle.onvm_core.proofs.Held.{raises_f}
+use Rattle.onvm_core.proofs.HeldSteps.{handled}
 
 -- A receive role
 
@@ -35,7 +36,8 @@ no_passing_by may = may.1 0 raises_f
 -- A core
 
 -- what it may pop after a look at the weight word of value 0, 512, and 2 to the 20th
-pub budgets : (budget smallest f 0 ≡ 32) × (budget smallest f 512 ≡ 16) × (budget smallest f 1 ≡ 1) × (budget smallest f 1048576 ≡ 1024) × (budget hasty f 0 ≡ 1)
+pub budgets : (budget smallest f 0 ≡ 32) × (budget smallest f 512 ≡ 16) × (budget smallest f 1 ≡ 1)
+    × (budget smallest f 1048576 ≡ 1024) × (budget hasty f 0 ≡ 1)
 budgets = (refl, refl, refl, refl, refl)
 
 -- how many looks at output cells a log has
@@ -68,12 +70,18 @@ pub no_blind_pop : MayHandle setting 2 (Look (Weight f) 0 None ∷ []) (Pop (Lan
 no_blind_pop may = omega (arith, saw_some (Look (Weight f) 0 None ∷ []) may.room)
 
 -- pops nothing before it looked at the weight word
-pub no_pop_on_credit : MayHandle setting 2 (Look (Cell (Output f) 0) 0 None ∷ []) (Pop (Lane f 0) (Buffer b0 (entry_parcel e1))) → ⊥
+pub no_pop_on_credit : MayHandle setting 2 (Look (Cell (Output f) 0) 0 None ∷ [])
+    (Pop (Lane f 0) (Buffer b0 (entry_parcel e1)))
+    → ⊥
 no_pop_on_credit may = omega (arith, may.left)
 
 -- pops nothing while it has a parcel in hand
-pub no_second_pop : (log : Log) → MayHandle setting 2 (Pop (Lane f 0) (Buffer b0 (entry_parcel e1)) ∷ log) (Pop (Lane f 0) (Buffer b1 (entry_parcel e1))) → ⊥
-no_second_pop log may = let off : Some (record { function = f; buf = 0; parcel = entry_parcel e1 }) ≡ None = may.free in cc
+pub no_second_pop : (log : Log)
+    → MayHandle setting 2 (Pop (Lane f 0) (Buffer b0 (entry_parcel e1)) ∷ log)
+    (Pop (Lane f 0) (Buffer b1 (entry_parcel e1)))
+    → ⊥
+no_second_pop log may =
+    let off : Some (record { function = f; buf = 0; parcel = entry_parcel e1 }) ≡ None = may.free in cc
 
 -- gives nothing back
 pub no_give : (log : Log) → MayHandle setting 2 log (Give b0 (Sent 0) (entry_parcel e1)) → ⊥

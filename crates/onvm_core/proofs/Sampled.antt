@@ -6,7 +6,7 @@ use Rattle.onvm_core.specs.declared.step.Item.TheVariants.{Buffer, Number}
 use Rattle.onvm_core.specs.Logs.{Log}
 use Rattle.onvm_core.specs.Samples.{AreSamples, is_sampled, lost_count, mailed_count}
 use Rattle.onvm_core.proofs.Crowd.{f, b0, b1, e1, e2}
-use Rattle.onvm_core.proofs.Held.{handled}
+use Rattle.onvm_core.proofs.HeldSteps.{handled}
 
 abbrev one_handled : Log
 one_handled = Push (Output f) (Buffer b0 (handled e1 0)) ∷ []

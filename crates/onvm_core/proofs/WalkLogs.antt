@@ -15,7 +15,14 @@ use Rattle.onvm_core.proofs.Walk.{layout, entered, f, first_bit, walk}
 use Rattle.onvm_core.specs.History.{History}
 
 abbrev pub entry : Entry
-entry = record { frame = entered.frame; stamp = entered.stamp; packet = entered.packet; chain = entered.chain; hash = entered.hash }
+entry =
+    record {
+      frame = entered.frame;
+      stamp = entered.stamp;
+      packet = entered.packet;
+      chain = entered.chain;
+      hash = entered.hash;
+    }
 
 abbrev pub setting : Setting
 setting = record { layout = layout; plan = smallest; entries = entry ∷ [] }
@@ -27,7 +34,11 @@ receive_is : IsOfBlocks setting 0 (log_of 0 walk)
 receive_is = (
   inr (entry, refl, (refl, refl, record { function = f; cursor = 0; move = refl; lane = refl })),
   (
-    inr (entry, refl, record { known = omega arith; word = refl; shown = first_bit; lowest = λ k less. absurd (omega (arith, less)) }),
+    inr (
+      entry,
+      refl,
+      record { known = omega arith; word = refl; shown = first_bit; lowest = λ k less. absurd (omega (arith, less)) },
+    ),
     (
       inr (entry, refl, (refl, λ none. absurd (omega (arith, none)))),
       (
@@ -82,7 +93,9 @@ lead_is : IsOfBlocks setting 4 (log_of 4 walk)
 lead_is = (tt, (tt, (tt, (tt, (tt, (tt, tt))))))
 
 -- what holds of one role's log holds of a role of the same number
-pub at_role : (setting : Setting) (past : History) (n role : ℕ) → IsOfBlocks setting n (log_of n past) → (n == role) ≡ true → IsOfBlocks setting role (log_of role past)
+pub at_role : (setting : Setting) (past : History) (n role : ℕ)
+    → IsOfBlocks setting n (log_of n past) → (n == role) ≡ true
+    → IsOfBlocks setting role (log_of role past)
 at_role setting past n role is met = subst (λ r. IsOfBlocks setting r (log_of r past)) (eqb-true n role met) is
 
 pub walk_follows : AllOfBlocks setting walk
