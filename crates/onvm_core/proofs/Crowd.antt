@@ -230,13 +230,12 @@ lawful_6 : IsLawful layout h6
 lawful_6 = (
   record {
     live = refl;
-    allowed =
-        record {
-          known = (omega arith, omega arith);
-          own_end = refl;
-          room = omega arith;
-          suits = (record { known = omega arith; holder = refl }, omega arith);
-        };
+    allowed = record {
+      known = (omega arith, omega arith);
+      own_end = refl;
+      room = omega arith;
+      suits = (record { known = omega arith; holder = refl }, omega arith);
+    };
   },
   lawful_5,
 )
@@ -266,13 +265,12 @@ lawful_11 : IsLawful layout h11
 lawful_11 = (
   record {
     live = refl;
-    allowed =
-        record {
-          known = (omega arith, omega arith);
-          own_end = refl;
-          room = omega arith;
-          suits = (record { known = omega arith; holder = refl }, omega arith);
-        };
+    allowed = record {
+      known = (omega arith, omega arith);
+      own_end = refl;
+      room = omega arith;
+      suits = (record { known = omega arith; holder = refl }, omega arith);
+    };
   },
   lawful_10,
 )
@@ -338,13 +336,12 @@ lawful_22 : IsLawful layout h22
 lawful_22 = (
   record {
     live = refl;
-    allowed =
-        record {
-          known = (omega arith, omega arith);
-          own_end = refl;
-          room = omega arith;
-          suits = (record { known = omega arith; holder = refl }, omega arith);
-        };
+    allowed = record {
+      known = (omega arith, omega arith);
+      own_end = refl;
+      room = omega arith;
+      suits = (record { known = omega arith; holder = refl }, omega arith);
+    };
   },
   lawful_21,
 )

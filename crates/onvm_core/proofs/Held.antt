@@ -28,6 +28,7 @@ use Rattle.onvm_core.proofs.Plans.{hasty}
 use Rattle.onvm_core.proofs.WalkLogs.{no_bit, at_role}
 use Rattle.onvm_core.proofs.Crowd.{f, b0, e1, e2, e3, e4, setting, bit_7_0, bit_6_1, lowest_7, lowest_6}
 use Rattle.onvm_core.proofs.HeldSteps.{handled, held, h8, raised, emptied, cleared, whole}
+use Rattle.onvm_core.proofs.Marked.{no_bit as no_bits}
 
 -- the held frame's chain has function f, the lowest there is
 f_of_chain : IsOfChain setting.plan e3.chain 0
@@ -178,9 +179,6 @@ high_bits : (k : ℕ) → has_bit 4294967297 (suc k) ≡ false
 high_bits k =
     let small : 1 / 2 ^ suc k ≡ 0 = div-eq_of_lt (omega (arith, pow_pos k)) in
     rw small refl
-
-no_bits : (k : ℕ) → has_bit 0 k ≡ false
-no_bits k = let none : 0 / 2 ^ k ≡ 0 = zero-div (2 ^ k) in rw none refl
 
 no_bits_left : (k : ℕ) → has_bit 8589934592 k ≡ false
 no_bits_left k = let none : 0 / 2 ^ k ≡ 0 = zero-div (2 ^ k) in rw none refl

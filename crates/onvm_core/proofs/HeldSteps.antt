@@ -148,13 +148,12 @@ lawful_7 : IsLawful layout h7
 lawful_7 = (
   record {
     live = refl;
-    allowed =
-        record {
-          known = (omega arith, omega arith);
-          own_end = refl;
-          room = omega arith;
-          suits = (record { known = omega arith; holder = refl }, omega arith);
-        };
+    allowed = record {
+      known = (omega arith, omega arith);
+      own_end = refl;
+      room = omega arith;
+      suits = (record { known = omega arith; holder = refl }, omega arith);
+    };
   },
   lawful_6,
 )
@@ -184,13 +183,12 @@ lawful_12 : IsLawful layout h12
 lawful_12 = (
   record {
     live = refl;
-    allowed =
-        record {
-          known = (omega arith, omega arith);
-          own_end = refl;
-          room = omega arith;
-          suits = (record { known = omega arith; holder = refl }, omega arith);
-        };
+    allowed = record {
+      known = (omega arith, omega arith);
+      own_end = refl;
+      room = omega arith;
+      suits = (record { known = omega arith; holder = refl }, omega arith);
+    };
   },
   lawful_11,
 )
@@ -238,13 +236,12 @@ lawful_20 : IsLawful layout h20
 lawful_20 = (
   record {
     live = refl;
-    allowed =
-        record {
-          known = omega arith;
-          own_end = refl;
-          room = omega arith;
-          suits = (record { known = omega arith; holder = refl }, omega arith, omega arith);
-        };
+    allowed = record {
+      known = omega arith;
+      own_end = refl;
+      room = omega arith;
+      suits = (record { known = omega arith; holder = refl }, omega arith, omega arith);
+    };
   },
   lawful_19,
 )
@@ -265,13 +262,12 @@ lawful_23 : IsLawful layout h23
 lawful_23 = (
   record {
     live = refl;
-    allowed =
-        record {
-          known = omega arith;
-          own_end = refl;
-          room = omega arith;
-          suits = (record { known = omega arith; holder = refl }, omega arith, omega arith);
-        };
+    allowed = record {
+      known = omega arith;
+      own_end = refl;
+      room = omega arith;
+      suits = (record { known = omega arith; holder = refl }, omega arith, omega arith);
+    };
   },
   lawful_22,
 )

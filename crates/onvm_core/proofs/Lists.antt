@@ -20,8 +20,8 @@ last_of_push trail crumb =
     let n : length (trail ++ crumb ∷ []) - 1 ≡ length trail = omega (arith, length_push trail crumb) in
     rw n (get_last trail crumb)
 
-pub if_met : (b : Bool) (x y : ℕ) → b ≡ true → (if b then x else y) ≡ x
+pub if_met : {A : Type 0} (b : Bool) (x y : A) → b ≡ true → (if b then x else y) ≡ x
 if_met b x y e = rw e refl
 
-pub if_unmet : (b : Bool) (x y : ℕ) → b ≡ false → (if b then x else y) ≡ y
+pub if_unmet : {A : Type 0} (b : Bool) (x y : A) → b ≡ false → (if b then x else y) ≡ y
 if_unmet b x y e = rw e refl

@@ -27,20 +27,14 @@ bit_of_set value f set =
     sym (shr_and_one (value % 2 ^ 32) f) ∙ (bit_set_by_shift (value % 2 ^ 32) f).1 set in
     eq-eqb (value % 2 ^ 32 / 2 ^ f % 2) 1 one
 
-no_bit : (f : ℕ) → has_bit 0 f ≡ false
+pub no_bit : (f : ℕ) → has_bit 0 f ≡ false
 no_bit f = ap (λ (n : ℕ). n == 1) (bit_at-zero f)
 
 not_both : (b : Bool) → b ≡ false → b ≡ true → ⊥
 not_both b one two = let off : false ≡ true = sym one ∙ two in cc
 
-then_first : (b x y : Bool) → b ≡ true → (if b then x else y) ≡ x
-then_first b x y e = rw e refl
-
-else_second : (b x y : Bool) → b ≡ false → (if b then x else y) ≡ y
-else_second b x y e = rw e refl
-
 never : (b y : Bool) → y ≡ false → (if b then false else y) ≡ false
-never b y e = elim (cases_Bool b) [ inl met ↦ then_first b false y met | inr unmet ↦ else_second b false y unmet ∙ e ]
+never b y e = elim (cases_Bool b) [ inl met ↦ if_met b false y met | inr unmet ↦ if_unmet b false y unmet ∙ e ]
 
 not_and : (a b : Bool) → a ≡ false → (a && b) ≡ false
 not_and a b e = rw e refl
@@ -60,7 +54,7 @@ late_bit aged f (Passed pass ∷ before) are late = late_bit aged f before are.1
 late_bit aged f (Posted value ∷ before) are late =
     let last : posts_in before + 1 ≡ last_number = omega (arith, are.0.more, late) in
     are.0.bits f
-    ∙ then_first (posts_in before + 1 == last_number) false (is_throttled aged f before)
+    ∙ if_met (posts_in before + 1 == last_number) false (is_throttled aged f before)
     (eq-eqb (posts_in before + 1) last_number last)
 
 not_late : (aged : Ages) (f : ℕ) (marks : Marks) → ArePaid aged marks → has_bit (last_post marks) f ≡ true
@@ -71,7 +65,7 @@ post_settles : (aged : Ages) (value : ℕ) (before : Marks) → IsOwed aged befo
     → IsSettled aged (Posted value ∷ before)
 post_settles aged value before owed more f =
     owed.bits f
-    ∙ else_second (posts_in before + 1 == last_number) false (is_throttled aged f before)
+    ∙ if_unmet (posts_in before + 1 == last_number) false (is_throttled aged f before)
     (ne_eqb (posts_in before + 1) last_number (λ e. omega (arith, e, more)))
 
 post_pays : (aged : Ages) (value : ℕ) (before : Marks) → IsOwed aged before value → IsPaid aged (Posted value ∷ before)
@@ -113,14 +107,14 @@ raised_post aged f value pass before owed paid bit earlier =
       | inl met ↦
           absurd
           (not_both (if posts_in before + 1 == last_number then false else is_throttled aged f (Passed pass ∷ before))
-          (then_first (posts_in before + 1 == last_number) false (is_throttled aged f (Passed pass ∷ before)) met)
+          (if_met (posts_in before + 1 == last_number) false (is_throttled aged f (Passed pass ∷ before)) met)
           chose)
       | inr unmet ↦
           let throttled :
           (finds false f pass && ((finds true f pass && aged (pass_count before) f) || is_throttled aged f before))
           ≡ true
           = sym
-          (else_second (posts_in before + 1 == last_number) false (is_throttled aged f (Passed pass ∷ before)) unmet)
+          (if_unmet (posts_in before + 1 == last_number) false (is_throttled aged f (Passed pass ∷ before)) unmet)
           ∙ chose in
           let both : (finds false f pass ≡ true)
           × (((finds true f pass && aged (pass_count before) f) || is_throttled aged f before) ≡ true)

@@ -125,13 +125,12 @@ received_is : IsLawful layout received
 received_is = (
   record {
     live = refl;
-    allowed =
-        record {
-          known = (omega arith, omega arith);
-          own_end = refl;
-          room = omega arith;
-          suits = (record { known = omega arith; holder = refl }, omega arith);
-        };
+    allowed = record {
+      known = (omega arith, omega arith);
+      own_end = refl;
+      room = omega arith;
+      suits = (record { known = omega arith; holder = refl }, omega arith);
+    };
   },
   (
     record {
@@ -146,13 +145,12 @@ served_is : IsLawful layout served
 served_is = (
   record {
     live = refl;
-    allowed =
-        record {
-          known = omega arith;
-          own_end = refl;
-          room = omega arith;
-          suits = (record { known = omega arith; holder = refl }, omega arith, omega arith);
-        };
+    allowed = record {
+      known = omega arith;
+      own_end = refl;
+      room = omega arith;
+      suits = (record { known = omega arith; holder = refl }, omega arith, omega arith);
+    };
   },
   (
     record { live = refl; allowed = record { known = (omega arith, omega arith); own_end = refl; first = refl } },
@@ -198,13 +196,12 @@ walk_is_lawful = (
     (
       record {
         live = refl;
-        allowed =
-            record {
-              first = refl;
-              another = λ e. omega (arith, e);
-              live = refl;
-              empty_handed = λ b known. not_held 0 b;
-            };
+        allowed = record {
+          first = refl;
+          another = λ e. omega (arith, e);
+          live = refl;
+          empty_handed = λ b known. not_held 0 b;
+        };
       },
       transmitted_is,
     ),

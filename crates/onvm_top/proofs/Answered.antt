@@ -43,25 +43,59 @@ IsAnswer-stopped words told told_now deeds fault (inr (inl (command, is, same, i
 IsAnswer-stopped words told told_now deeds fault (inr (inl (command, is, same, inr (inr memory)))) =
     let P : Fault → Type 0 = λ f. IsAnswer words told told_now (status_of f) in
     subst P (sym memory.0) ((command, is), same)
-IsAnswer-stopped words told told_now deeds fault (inr (inr (inl (command, is, same, chain, (first, rest, split, read, inl broken))))) =
+IsAnswer-stopped words told told_now deeds fault
+    (inr (inr (inl (command, is, same, chain, (first, rest, split, read, inl broken))))) =
     let P : Fault → Type 0 = λ f. IsAnswer words told told_now (status_of f) in
-    subst P (sym broken.1) ((command, is, λ files told_is. (chain files told_is, inl (broken.0, broken.3 files told_is))), same)
-IsAnswer-stopped words told told_now deeds fault (inr (inr (inl (command, is, same, chain, (first, rest, split, read, inr (inl large)))))) =
+    subst P (sym broken.1)
+    ((command, is, λ files told_is. (chain files told_is, inl (broken.0, broken.3 files told_is))), same)
+IsAnswer-stopped words told told_now deeds fault
+    (inr (inr (inl (command, is, same, chain, (first, rest, split, read, inr (inl large)))))) =
     let P : Fault → Type 0 = λ f. IsAnswer words told told_now (status_of f) in
     subst P (sym large.0) ((command, is, λ files told_is. (chain files told_is, inr (large.2 files told_is))), same)
-IsAnswer-stopped words told told_now deeds fault (inr (inr (inl (command, is, same, chain, (first, rest, split, read, inr (inr (inl failed))))))) =
+IsAnswer-stopped words told told_now deeds fault
+    (inr (inr (inl (command, is, same, chain, (first, rest, split, read, inr (inr (inl failed))))))) =
     let P : Fault → Type 0 = λ f. IsAnswer words told told_now (status_of f) in
     subst P (sym failed.0) ((command, is), same)
-IsAnswer-stopped words told told_now deeds fault (inr (inr (inl (command, is, same, chain, (first, rest, split, read, inr (inr (inr memory))))))) =
+IsAnswer-stopped words told told_now deeds fault
+    (inr (inr (inl (command, is, same, chain, (first, rest, split, read, inr (inr (inr memory))))))) =
     let P : Fault → Type 0 = λ f. IsAnswer words told told_now (status_of f) in
     subst P (sym memory.0) ((command, is), same)
-IsAnswer-stopped words told told_now deeds fault (inr (inr (inr (command, is, chain, frames, within, good, (first, rest, split, read, (next, last, cut, taken, inl create)))))) =
+IsAnswer-stopped words told told_now deeds fault
+    (inr (inr (inr (
+      command,
+      is,
+      chain,
+      frames,
+      within,
+      good,
+      (first, rest, split, read, (next, last, cut, taken, inl create)),
+    )))) =
     let P : Fault → Type 0 = λ f. IsAnswer words told told_now (status_of f) in
-    subst P (sym create.0) (command, is, frames, λ files told_is. (chain files told_is, good files told_is, inl (create.2 ∙ told_is)))
-IsAnswer-stopped words told told_now deeds fault (inr (inr (inr (command, is, chain, frames, within, good, (first, rest, split, read, (next, last, cut, taken, inr (inl write))))))) =
+    subst P (sym create.0)
+    (command, is, frames, λ files told_is. (chain files told_is, good files told_is, inl (create.2 ∙ told_is)))
+IsAnswer-stopped words told told_now deeds fault
+    (inr (inr (inr (
+      command,
+      is,
+      chain,
+      frames,
+      within,
+      good,
+      (first, rest, split, read, (next, last, cut, taken, inr (inl write))),
+    )))) =
     let P : Fault → Type 0 = λ f. IsAnswer words told told_now (status_of f) in
-    subst P (sym write.0) (command, is, frames, λ files told_is. (chain files told_is, good files told_is, inr (write.2 files told_is)))
-IsAnswer-stopped words told told_now deeds fault (inr (inr (inr (command, is, chain, frames, within, good, (first, rest, split, read, (next, last, cut, taken, inr (inr memory))))))) =
+    subst P (sym write.0)
+    (command, is, frames, λ files told_is. (chain files told_is, good files told_is, inr (write.2 files told_is)))
+IsAnswer-stopped words told told_now deeds fault
+    (inr (inr (inr (
+      command,
+      is,
+      chain,
+      frames,
+      within,
+      good,
+      (first, rest, split, read, (next, last, cut, taken, inr (inr memory))),
+    )))) =
     let P : Fault → Type 0 = λ f. IsAnswer words told told_now (status_of f) in
     subst P (sym memory.0) ((command, is), memory.2)
 
@@ -86,7 +120,8 @@ chain_or_other words a b files is other chain (bytes, file, differs) =
     differs (cc)
 
 -- the first frames of some that a port takes are taken
-pub within_first : (frames first rest : List Frame) → frames ≡ first ++ rest → IsWithinLimits frames → IsWithinLimits first
+pub within_first : (frames first rest : List Frame) → frames ≡ first ++ rest → IsWithinLimits frames
+    → IsWithinLimits first
 within_first frames first rest split within =
     let count = ap (length {A = Frame}) split ∙ length-append first rest in
     let bytes = ap bytes_of split ∙ sum_by-append (λ (frame : Frame). length frame.packet) first rest in
@@ -96,11 +131,14 @@ within_first frames first rest split within =
     }
 
 -- a text is not the capture of frames that a port takes and a bad one
-good_or_bad : (name : List ℕ) (files : Entries) (frames : List Frame) → IsGoodCapture name files frames → IsBadCapture name files → ⊥
+good_or_bad : (name : List ℕ) (files : Entries) (frames : List Frame)
+    → IsGoodCapture name files frames → IsBadCapture name files
+    → ⊥
 good_or_bad name files frames good (inl (fault, faulty)) =
     let found = sym good.file ∙ faulty.file in
     let same : good.text ≡ faulty.text = cc in
-    no_fault faulty.text frames faulty.frames fault (subst (λ (t : List ℕ). IsCapture t frames) same good.is_capture) faulty.up_to
+    no_fault faulty.text frames faulty.frames fault
+    (subst (λ (t : List ℕ). IsCapture t frames) same good.is_capture) faulty.up_to
 good_or_bad name files frames good (inr large) =
     let found = sym good.file ∙ large.file in
     let same : good.text ≡ large.text = cc in
@@ -110,10 +148,12 @@ good_or_bad name files frames good (inr large) =
 
 good_of_done : (command : Command) (files : Entries) (now : Option Entries) → (done : IsReplayed command files now)
     → IsGoodCapture command.capture files done.frames
-good_of_done command files now done = record { text = done.text; file = done.capture; is_capture = done.is_capture; within = done.within }
+good_of_done command files now done =
+    record { text = done.text; file = done.capture; is_capture = done.is_capture; within = done.within }
 
-other_capture : (words : List (List ℕ)) (a b : Command) (files : Entries) (frames : List Frame) → IsCommand words a → IsCommand words b
-    → IsGoodCapture a.capture files frames → IsBadCapture b.capture files → ⊥
+other_capture : (words : List (List ℕ)) (a b : Command) (files : Entries) (frames : List Frame)
+    → IsCommand words a → IsCommand words b → IsGoodCapture a.capture files frames → IsBadCapture b.capture files
+    → ⊥
 other_capture words a b files frames is other good bad =
     let P : List ℕ → Type 0 = λ n. IsGoodCapture n files frames in
     good_or_bad b.capture files frames (subst P (same_capture words a b is other) good) bad
@@ -151,7 +191,8 @@ pub bad_capture : (words : List (List ℕ)) (told told_now : Option Entries) (an
     → IsUnlessStopped Capture answer
 bad_capture words told told_now Done tells command is files told_is chain bad =
     let done = tells.2 files told_is in
-    absurd (other_capture words tells.0 command files done.frames tells.1 is (good_of_done tells.0 files told_now done) bad)
+    absurd
+    (other_capture words tells.0 command files done.frames tells.1 is (good_of_done tells.0 files told_now done) bad)
 bad_capture words told told_now Words tells command is files told_is chain bad = absurd (tells.0 command is)
 bad_capture words told told_now Plan tells command is files told_is chain bad =
     absurd (chain_or_other words command tells.0.0 files is tells.0.1 chain (tells.0.2 files told_is))
@@ -168,13 +209,16 @@ pub complete : (words : List (List ℕ)) (told told_now : Option Entries) (answe
     → (frames : List Frame) → IsGoodCapture command.capture files frames → answer ≢ Read → answer ≢ Write
     → (answer ≡ Done) ⊎ (answer ≡ Memory)
 complete words told told_now Done tells command is files told_is chain frames good unread unwritten = inl refl
-complete words told told_now Words tells command is files told_is chain frames good unread unwritten = absurd (tells.0 command is)
+complete words told told_now Words tells command is files told_is chain frames good unread unwritten =
+    absurd (tells.0 command is)
 complete words told told_now Plan tells command is files told_is chain frames good unread unwritten =
     absurd (chain_or_other words command tells.0.0 files is tells.0.1 chain (tells.0.2 files told_is))
 complete words told told_now Capture tells command is files told_is chain frames good unread unwritten =
     absurd (other_capture words command tells.0.0 files frames is tells.0.1 good (tells.0.2 files told_is).1)
-complete words told told_now Read tells command is files told_is chain frames good unread unwritten = absurd (unread refl)
-complete words told told_now Write tells command is files told_is chain frames good unread unwritten = absurd (unwritten refl)
+complete words told told_now Read tells command is files told_is chain frames good unread unwritten =
+    absurd (unread refl)
+complete words told told_now Write tells command is files told_is chain frames good unread unwritten =
+    absurd (unwritten refl)
 complete words told told_now Memory tells command is files told_is chain frames good unread unwritten = inr refl
 
 -- where the chain file is another and Read is told, the chain file could not be read
@@ -183,16 +227,21 @@ pub other_chain_Read : (words : List (List ℕ)) (told told_now : Option Entries
     → (files : Entries) → told ≡ Some files → IsOtherChain command.chain files → CannotReadChain command.chain deeds
 other_chain_Read words told told_now deeds fault (inl at) read command is files told_is other =
     let clash : Words ≡ Read = sym (ap status_of at.0) ∙ read in cc
-other_chain_Read words told told_now deeds fault (inr (inl (first, first_is, same, inl plan))) read command is files told_is other =
+other_chain_Read words told told_now deeds fault
+    (inr (inl (first, first_is, same, inl plan))) read command is files told_is other =
     let clash : Plan ≡ Read = sym (ap status_of plan.0) ∙ read in cc
-other_chain_Read words told told_now deeds fault (inr (inl (first, first_is, same, inr (inl failed)))) read command is files told_is other =
+other_chain_Read words told told_now deeds fault
+    (inr (inl (first, first_is, same, inr (inl failed)))) read command is files told_is other =
     let P : List ℕ → Type 0 = λ n. CannotReadChain n deeds in
     subst P (same_chain words first command first_is is) failed.1
-other_chain_Read words told told_now deeds fault (inr (inl (first, first_is, same, inr (inr memory)))) read command is files told_is other =
+other_chain_Read words told told_now deeds fault
+    (inr (inl (first, first_is, same, inr (inr memory)))) read command is files told_is other =
     let clash : Memory ≡ Read = sym (ap status_of memory.0) ∙ read in cc
-other_chain_Read words told told_now deeds fault (inr (inr (inl (first, first_is, same, chain, calls)))) read command is files told_is other =
+other_chain_Read words told told_now deeds fault
+    (inr (inr (inl (first, first_is, same, chain, calls)))) read command is files told_is other =
     absurd (chain_or_other words first command files first_is is (chain files told_is) other)
-other_chain_Read words told told_now deeds fault (inr (inr (inr (first, first_is, chain, frames, within, good, calls)))) read command is files told_is other =
+other_chain_Read words told told_now deeds fault
+    (inr (inr (inr (first, first_is, chain, frames, within, good, calls)))) read command is files told_is other =
     absurd (chain_or_other words first command files first_is is (chain files told_is) other)
 
 -- but where it was done or writing failed, no file changed

@@ -29,55 +29,70 @@ pub length-IsCapture : (s : Spelling) (text : List ℕ) (frames : List Frame) �
     → length text ≡ 24 + 16 * length frames + bytes_of frames
 length-IsCapture s text frames (header, others, text-is, is, are) =
     let rest : length others ≡ 16 * length frames + bytes_of frames = length-AreRecords s others frames are in
-    let both : length text ≡ length header + length others = ap (length {A = ℕ}) text-is ∙ length-append header others in
+    let both : length text ≡ length header + length others =
+    ap (length {A = ℕ}) text-is ∙ length-append header others in
     omega (arith, is.size)
 
 short_record : (s : Spelling) (rest : List ℕ) → EndsInRecord s rest → length rest < record_limit
 short_record s rest (inl few) = omega arith
 short_record s rest (inr (limit, fraction, short)) = omega (arith, limit, short)
 
-short_at : (old : Reading) → AtRecord old (λ s at rest. EndsInRecord s rest) → length old.rest < HEADER_LEN + record_limit
+short_at : (old : Reading) → AtRecord old (λ s at rest. EndsInRecord s rest)
+    → length old.rest < HEADER_LEN + record_limit
 short_at old (inl (none, s, header, rest, text, is, ends)) =
     omega (arith, short_record s rest ends, ap (length {A = ℕ}) text, length-append header rest, is.size)
 short_at old (inr (s, known, ends)) = omega (arith, short_record s old.rest ends)
 
-early_at : (old : Reading) → EndsInHeader old ⊎ AtRecord old (λ s at rest. EndsInRecord s rest) → length old.rest < HEADER_LEN + record_limit
+early_at : (old : Reading) → EndsInHeader old ⊎ AtRecord old (λ s at rest. EndsInRecord s rest)
+    → length old.rest < HEADER_LEN + record_limit
 early_at old (inl ends) = omega (arith, ends.1)
 early_at old (inr at) = short_at old at
 
 inside_at : (old : Reading) → EndsInHeader old ⊎ AtRecord old (λ s at rest. EndsInRecord s rest)
     → (s : Spelling) → old.spelling ≡ Some s → length old.rest < record_limit
 inside_at old (inl (none, short)) s known = let clash : None ≡ Some s = sym none ∙ known in cc
-inside_at old (inr (inl (none, s', header, rest, text, is, ends))) s known = let clash : None ≡ Some s = sym none ∙ known in cc
+inside_at old (inr (inl (none, s', header, rest, text, is, ends))) s known =
+    let clash : None ≡ Some s = sym none ∙ known in cc
 inside_at old (inr (inr (s', known', ends))) s known = short_record s' old.rest ends
 
 -- where more is wanted, little is kept
 pub EndsEarly-more : (old new : Reading) → Pulls old pull.More new → EndsEarly new
 EndsEarly-more old new pulls =
     let P : Reading → Type 0 = EndsEarly in
-    subst P (sym pulls.0) (record { unfinished = pulls.1; short = early_at old pulls.2; inside = inside_at old pulls.2 })
+    subst P (sym pulls.0)
+    (record { unfinished = pulls.1; short = early_at old pulls.2; inside = inside_at old pulls.2 })
 
 -- each frame uses bytes of the rest
 used_at : (frame : Frame) (old new : Reading) → AtRecord old (GivesFrame frame new) → length new.rest < length old.rest
 used_at frame old new (inl (none, s, header, rest, text, is, (known, bytes, rest-is, record-is, place))) =
-    omega (arith, ap (length {A = ℕ}) text, length-append header rest, ap (length {A = ℕ}) rest-is, length-append bytes new.rest, record-is.size)
+    omega (
+      arith,
+      ap (length {A = ℕ}) text,
+      length-append header rest,
+      ap (length {A = ℕ}) rest-is,
+      length-append bytes new.rest,
+      record-is.size,
+    )
 used_at frame old new (inr (s, there, (known, bytes, rest-is, record-is, place))) =
     omega (arith, ap (length {A = ℕ}) rest-is, length-append bytes new.rest, record-is.size)
 
-pub rest-pulled : (frame : Frame) (old new : Reading) → Pulls old (pull.Frame frame) new → length new.rest < length old.rest
+pub rest-pulled : (frame : Frame) (old new : Reading) → Pulls old (pull.Frame frame) new
+    → length new.rest < length old.rest
 rest-pulled frame old new pulls = used_at frame old new pulls.1
 
 -- within the limits of a port no more is fed than this, with less than a header and a record to come
-pub HasRead-bound : (fed : List ℕ) (frames : List Frame) (reading : Reading) → HasRead fed frames reading → IsWithinLimits frames
-    → length reading.rest < HEADER_LEN + record_limit → reading.place + length reading.rest < HEADER_LEN + capture_limit
+pub HasRead-bound : (fed : List ℕ) (frames : List Frame) (reading : Reading)
+    → HasRead fed frames reading → IsWithinLimits frames → length reading.rest < HEADER_LEN + record_limit
+    → reading.place + length reading.rest < HEADER_LEN + capture_limit
 HasRead-bound fed frames reading (inl (none, zero, empty, fed-is)) within short = omega (arith, zero)
 HasRead-bound fed frames reading (inr behind) within short =
     let size = length-IsCapture behind.spelling behind.used frames behind.is_capture in
     omega (arith, behind.place, size, within.few, within.small)
 
 -- a frame that passes a limit makes the text pass it
-pub PassesLimit-pulled : (fed more : List ℕ) (frames : List Frame) (frame : Frame) (old new : Reading) → HasRead fed frames old
-    → Pulls old (pull.Frame frame) new → ¬ (IsWithinLimits (frames ++ frame ∷ [])) → PassesLimit (fed ++ more)
+pub PassesLimit-pulled : (fed more : List ℕ) (frames : List Frame) (frame : Frame) (old new : Reading)
+    → HasRead fed frames old → Pulls old (pull.Frame frame) new → ¬ (IsWithinLimits (frames ++ frame ∷ []))
+    → PassesLimit (fed ++ more)
 PassesLimit-pulled fed more frames frame old new read pulls large =
     let behind = IsBehind-pulled fed frames frame old new read pulls in (
       behind.used,

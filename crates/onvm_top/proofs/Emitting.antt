@@ -8,8 +8,10 @@ use Rattle.onvm_top.specs.Moved.{PutsAll, PutsPart}
 use Rattle.onvm_top.proofs.Moved.{PutsAll-append, PutsPart-first, PutsPart-second}
 
 -- after a head and the pieces of some items, the next item's piece
-pub PutsAll-flat_map_more : {X : Type 0} (a b c : Option (List ℕ)) (p q r : Amounts) (head : List ℕ) (piece : X → List ℕ) (items : List X) (i : ℕ) (x : X)
-    → i < length items → x ≡ get_or items i x → PutsAll a b p q (head ++ flat_map piece (take i items)) → PutsAll b c q r (piece x)
+pub PutsAll-flat_map_more : {X : Type 0} (a b c : Option (List ℕ)) (p q r : Amounts) (head : List ℕ)
+    (piece : X → List ℕ) (items : List X) (i : ℕ) (x : X)
+    → i < length items → x ≡ get_or items i x → PutsAll a b p q (head ++ flat_map piece (take i items))
+    → PutsAll b c q r (piece x)
     → PutsAll a c p r (head ++ flat_map piece (take (i + 1) items))
 PutsAll-flat_map_more {X} a b c p q r head piece items i x within is before next =
     let P : List ℕ → Type 0 = PutsAll a c p r in
@@ -20,16 +22,20 @@ PutsAll-flat_map_more {X} a b c p q r head piece items i x within is before next
     (PutsAll-append a b c p q r (head ++ flat_map piece (take i items)) (piece x) before next)
 
 -- at the end, the pieces of all items
-pub PutsAll-flat_map_all : {X : Type 0} (a b : Option (List ℕ)) (p q : Amounts) (head : List ℕ) (piece : X → List ℕ) (items all : List X) (i : ℕ)
-    → length items ≤ i → items ≡ all → PutsAll a b p q (head ++ flat_map piece (take i items)) → PutsAll a b p q (head ++ flat_map piece all)
+pub PutsAll-flat_map_all : {X : Type 0} (a b : Option (List ℕ)) (p q : Amounts) (head : List ℕ) (piece : X → List ℕ)
+    (items all : List X) (i : ℕ)
+    → length items ≤ i → items ≡ all → PutsAll a b p q (head ++ flat_map piece (take i items))
+    → PutsAll a b p q (head ++ flat_map piece all)
 PutsAll-flat_map_all {X} a b p q head piece items all i past is before =
     let P : List X → Type 0 = λ t. PutsAll a b p q (head ++ flat_map piece t) in
     subst P (take_all i items past ∙ is) before
 
 -- pieces of some items and then a part of the next one's are a part of all
-pub PutsPart-flat_map : {X : Type 0} (a b c : Option (List ℕ)) (p q r : Amounts) (head : List ℕ) (piece : X → List ℕ) (items all : List X) (i : ℕ) (x : X)
+pub PutsPart-flat_map : {X : Type 0} (a b c : Option (List ℕ)) (p q r : Amounts) (head : List ℕ)
+    (piece : X → List ℕ) (items all : List X) (i : ℕ) (x : X)
     → i < length items → x ≡ get_or items i x → items ≡ all → PutsAll a b p q (head ++ flat_map piece (take i items))
-    → PutsPart b c q r (piece x) → PutsPart a c p r (head ++ flat_map piece all)
+    → PutsPart b c q r (piece x)
+    → PutsPart a c p r (head ++ flat_map piece all)
 PutsPart-flat_map {X} a b c p q r head piece items all i x within is same before next =
     let P : List ℕ → Type 0 = PutsPart a c p r in
     let behind : List X = drop (i + 1) items in
@@ -37,7 +43,8 @@ PutsPart-flat_map {X} a b c p q r head piece items all i x within is same before
     let parts : flat_map piece items ≡ flat_map piece (take i items) ++ (piece x ++ flat_map piece behind) =
     ap (flat_map piece) (sym (take-append-drop i items)) ∙ flat_map-append piece (take i items) (drop i items)
     ∙ ap (λ t. flat_map piece (take i items) ++ flat_map piece t) rest in
-    let whole : (head ++ flat_map piece (take i items)) ++ (piece x ++ flat_map piece behind) ≡ head ++ flat_map piece all =
+    let whole : (head ++ flat_map piece (take i items)) ++ (piece x ++ flat_map piece behind)
+    ≡ head ++ flat_map piece all =
     append_assoc head (flat_map piece (take i items)) (piece x ++ flat_map piece behind)
     ∙ ap (λ t. head ++ t) (sym parts) ∙ ap (λ (t : List X). head ++ flat_map piece t) same in
     subst P whole

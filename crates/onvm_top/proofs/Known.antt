@@ -50,7 +50,8 @@ Consumes-to_end a b text x e p q =
     lemma (Some w) p q = p ∙ ap (λ t. x ++ t) q ∙ append-nil x
 
 -- no more was consumed than there was
-pub Consumes-length : (a b : Option (List ℕ)) (text x : List ℕ) → a ≡ Some text → Consumes a b x → length x ≤ length text
+pub Consumes-length : (a b : Option (List ℕ)) (text x : List ℕ) → a ≡ Some text → Consumes a b x
+    → length x ≤ length text
 Consumes-length a b text x e p =
     let P : Option (List ℕ) → Type 0 = λ t. Consumes t b x in
     lemma b (subst P e p)
@@ -72,7 +73,12 @@ take-written a n room written rest within few =
 pub length-written : (a n : ℕ) (room written rest : List ℕ) → a ≤ length room → n ≤ length written
     → a + n ≤ length (take a room ++ (written ++ rest))
 length-written a n room written rest within few =
-    omega (arith, length-take-le a room within, length-append (take a room) (written ++ rest), length-append written rest)
+    omega (
+      arith,
+      length-take-le a room within,
+      length-append (take a room) (written ++ rest),
+      length-append written rest,
+    )
 
 same_front : (a b : Option (List ℕ)) (bytes front text : List ℕ) (count limit : ℕ) → a ≡ Some bytes → Consumes a b front
     → length front ≡ count → (count < limit → IsAtEnd b) → length text < limit → (count < limit) ⊎ (limit ≤ count)
@@ -85,11 +91,13 @@ same_front a b bytes front text count limit told taken size short small (inr ful
     (λ same. absurd (omega (arith, ap length same)), λ same. absurd (omega (arith, ap length same)))
 
 -- a text that is shorter than a room is told by what fills the room
-pub same_as_front : (a b : Option (List ℕ)) (bytes room text : List ℕ) (count : ℕ) → a ≡ Some bytes → Consumes a b (take count room)
-    → count ≤ length room → (count < length room → IsAtEnd b) → length text < length room
+pub same_as_front : (a b : Option (List ℕ)) (bytes room text : List ℕ) (count : ℕ)
+    → a ≡ Some bytes → Consumes a b (take count room) → count ≤ length room → (count < length room → IsAtEnd b)
+    → length text < length room
     → (take count room ≡ text → bytes ≡ text) × (bytes ≡ text → take count room ≡ text)
 same_as_front a b bytes room text count told taken within short small =
-    same_front a b bytes (take count room) text count (length room) told taken (length-take-le count room within) short small
+    same_front a b bytes (take count room) text count (length room) told taken
+    (length-take-le count room within) short small
     (cases_lt count (length room))
 
 -- what was left behind what was consumed

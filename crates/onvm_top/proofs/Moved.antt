@@ -15,7 +15,8 @@ Moved-append a b [] ys p q =
     let same : b ≡ a + b = omega (arith, none) in
     subst P same q
 Moved-append a b (None ∷ xs) ys p q = absurd p
-Moved-append a b (Some n ∷ xs) ys (rest, some, is, p) q = (rest + b, some, omega (arith, is), Moved-append rest b xs ys p q)
+Moved-append a b (Some n ∷ xs) ys (rest, some, is, p) q =
+    (rest + b, some, omega (arith, is), Moved-append rest b xs ys p q)
 
 pub Moved-one : (n : ℕ) → 0 < n → Moved n (Some n ∷ [])
 Moved-one n some = (0, some, omega arith, refl)
@@ -28,8 +29,14 @@ Moved-last n (None ∷ xs) p some = absurd p
 Moved-last n (Some k ∷ []) p some = ([], k, 0, refl, refl, some)
 Moved-last n (Some k ∷ None ∷ xs) (rest, some_k, is, p) some = absurd p
 Moved-last n (Some k ∷ Some j ∷ xs) (rest, some_k, is, p) some =
-    let behind = Moved-last rest (Some j ∷ xs) p (omega (arith, p.1, p.2)) in
-    (Some k ∷ behind.0, behind.1, k + behind.2, ap (λ t. Some k ∷ t) behind.3, (behind.2, some_k, refl, behind.4), omega (arith, is, behind.5))
+    let behind = Moved-last rest (Some j ∷ xs) p (omega (arith, p.1, p.2)) in (
+      Some k ∷ behind.0,
+      behind.1,
+      k + behind.2,
+      ap (λ t. Some k ∷ t) behind.3,
+      (behind.2, some_k, refl, behind.4),
+      omega (arith, is, behind.5),
+    )
 
 -- no call yet
 pub MovedSince-start : (before : Amounts) → MovedSince 0 before before
@@ -40,7 +47,8 @@ one_more : {X : Type 0} (before now next given : List X) (x : X) → now ≡ bef
 one_more before now next given x is then = then ∙ ap (λ t. t ++ x ∷ []) is ∙ append_assoc before given (x ∷ [])
 
 -- one call more, which moved bytes
-pub MovedSince-next : (bytes n : ℕ) (before now next : Amounts) → MovedSince bytes before now → next ≡ now ++ Some n ∷ [] → 0 < n
+pub MovedSince-next : (bytes n : ℕ) (before now next : Amounts)
+    → MovedSince bytes before now → next ≡ now ++ Some n ∷ [] → 0 < n
     → MovedSince (bytes + n) before next
 MovedSince-next bytes n before now next since then some = (
   since.0 ++ Some n ∷ [],
@@ -49,8 +57,9 @@ MovedSince-next bytes n before now next since then some = (
 )
 
 -- one take more, which is the last
-pub Reads-next : (limit bytes : ℕ) (last : Option ℕ) (before now next : Amounts) → MovedSince bytes before now → next ≡ now ++ last ∷ []
-    → bytes < limit → Reads limit last before next
+pub Reads-next : (limit bytes : ℕ) (last : Option ℕ) (before now next : Amounts)
+    → MovedSince bytes before now → next ≡ now ++ last ∷ [] → bytes < limit
+    → Reads limit last before next
 Reads-next limit bytes last before now next since then fewer = (
   since.0 ++ last ∷ [],
   one_more before now next since.0 last since.1 then,
@@ -66,11 +75,18 @@ Reads-full limit bytes before now since some within =
       (
         since.0,
         since.1,
-        record { earlier = split.0; bytes = split.2; in_order = split.3; moved = split.4; fewer = omega (arith, split.5) },
+        record {
+          earlier = split.0;
+          bytes = split.2;
+          in_order = split.3;
+          moved = split.4;
+          fewer = omega (arith, split.5);
+        },
       ),
     )
 
-pub AppendsAll-append : (a b c : Option (List ℕ)) (p q : Amounts) (x y : List ℕ) → AppendsAll a b p x → AppendsAll b c q y
+pub AppendsAll-append : (a b c : Option (List ℕ)) (p q : Amounts) (x y : List ℕ)
+    → AppendsAll a b p x → AppendsAll b c q y
     → AppendsAll a c (p ++ q) (x ++ y)
 AppendsAll-append a b c p q x y one two =
     let P : ℕ → Type 0 = λ n. Moved n (p ++ q) in
@@ -80,7 +96,8 @@ AppendsAll-append a b c p q x y one two =
     }
 
 -- a part of the first is a part of both
-pub AppendsPart-first : (a b : Option (List ℕ)) (p : Amounts) (x y : List ℕ) → AppendsPart a b p x → AppendsPart a b p (x ++ y)
+pub AppendsPart-first : (a b : Option (List ℕ)) (p : Amounts) (x y : List ℕ) → AppendsPart a b p x
+    → AppendsPart a b p (x ++ y)
 AppendsPart-first a b p x y part = record {
   front = part.front;
   rest = part.rest ++ y;
@@ -93,7 +110,8 @@ AppendsPart-first a b p x y part = record {
 }
 
 -- the first and a part of the second are a part of both
-pub AppendsPart-second : (a b c : Option (List ℕ)) (p q : Amounts) (x y : List ℕ) → AppendsAll a b p x → AppendsPart b c q y
+pub AppendsPart-second : (a b c : Option (List ℕ)) (p q : Amounts) (x y : List ℕ)
+    → AppendsAll a b p x → AppendsPart b c q y
     → AppendsPart a c (p ++ q) (x ++ y)
 AppendsPart-second a b c p q x y all part =
     let P : ℕ → Type 0 = λ n. Moved n (p ++ part.earlier) in
@@ -105,20 +123,24 @@ AppendsPart-second a b c p q x y all part =
       appended = Appends-append a b c x part.front all.appended part.appended;
       earlier = p ++ part.earlier;
       in_order = ap (λ t. p ++ t) part.in_order ∙ sym (append_assoc p part.earlier (None ∷ []));
-      moved = subst P (sym (length-append x part.front)) (Moved-append (length x) (length part.front) p part.earlier all.moved part.moved);
+      moved =
+          subst P (sym (length-append x part.front))
+          (Moved-append (length x) (length part.front) p part.earlier all.moved part.moved);
     }
 
 appends_none : (known : Option (List ℕ)) → AppendsAll known known [] []
 appends_none known = record { appended = Appends-nothing known; moved = refl }
 
-appends_one : (old new : Option (List ℕ)) (piece : List ℕ) (n : ℕ) → Appends old new (take n piece) → n ≤ length piece → 0 < n
+appends_one : (old new : Option (List ℕ)) (piece : List ℕ) (n : ℕ)
+    → Appends old new (take n piece) → n ≤ length piece → 0 < n
     → AppendsAll old new (Some n ∷ []) (take n piece)
 appends_one old new piece n appended within some =
     let P : ℕ → Type 0 = λ m. Moved m (Some n ∷ []) in
     record { appended = appended; moved = subst P (sym (length-take-le n piece within)) (Moved-one n some) }
 
-appends_cut : (old at new : Option (List ℕ)) (amounts : Amounts) (whole front rest : List ℕ) → whole ≡ front ++ rest → 0 < length rest
-    → AppendsAll old at amounts front → Keeps at new → AppendsPart old new (amounts ++ None ∷ []) whole
+appends_cut : (old at new : Option (List ℕ)) (amounts : Amounts) (whole front rest : List ℕ)
+    → whole ≡ front ++ rest → 0 < length rest → AppendsAll old at amounts front → Keeps at new
+    → AppendsPart old new (amounts ++ None ∷ []) whole
 appends_cut old at new amounts whole front rest split some all keeps = record {
   front = front;
   rest = rest;
@@ -144,24 +166,28 @@ PutsAll-append a b c p q r x y one two = (
 )
 
 -- one put more
-pub PutsAll-next : (a b c : Option (List ℕ)) (p q r : Amounts) (x piece : List ℕ) (n : ℕ) → PutsAll a b p q x → Appends b c (take n piece)
-    → n ≤ length piece → 0 < n → r ≡ q ++ Some n ∷ [] → PutsAll a c p r (x ++ take n piece)
+pub PutsAll-next : (a b c : Option (List ℕ)) (p q r : Amounts) (x piece : List ℕ) (n : ℕ)
+    → PutsAll a b p q x → Appends b c (take n piece) → n ≤ length piece → 0 < n → r ≡ q ++ Some n ∷ []
+    → PutsAll a c p r (x ++ take n piece)
 PutsAll-next a b c p q r x piece n all appended within some then =
     PutsAll-append a b c p q r x (take n piece) all (Some n ∷ [], then, appends_one b c piece n appended within some)
 
 -- one put more, which failed
-pub PutsPart-next : (a b c : Option (List ℕ)) (p q r : Amounts) (whole front rest : List ℕ) → whole ≡ front ++ rest → 0 < length rest
-    → PutsAll a b p q front → Keeps b c → r ≡ q ++ None ∷ [] → PutsPart a c p r whole
+pub PutsPart-next : (a b c : Option (List ℕ)) (p q r : Amounts) (whole front rest : List ℕ)
+    → whole ≡ front ++ rest → 0 < length rest → PutsAll a b p q front → Keeps b c → r ≡ q ++ None ∷ []
+    → PutsPart a c p r whole
 PutsPart-next a b c p q r whole front rest split some all keeps then = (
   all.0 ++ None ∷ [],
   one_more p q r all.0 None all.1 then,
   appends_cut a b c all.0 whole front rest split some all.2 keeps,
 )
 
-pub PutsPart-first : (a b : Option (List ℕ)) (p q : Amounts) (x y : List ℕ) → PutsPart a b p q x → PutsPart a b p q (x ++ y)
+pub PutsPart-first : (a b : Option (List ℕ)) (p q : Amounts) (x y : List ℕ) → PutsPart a b p q x
+    → PutsPart a b p q (x ++ y)
 PutsPart-first a b p q x y part = (part.0, part.1, AppendsPart-first a b part.0 x y part.2)
 
-pub PutsPart-second : (a b c : Option (List ℕ)) (p q r : Amounts) (x y : List ℕ) → PutsAll a b p q x → PutsPart b c q r y
+pub PutsPart-second : (a b c : Option (List ℕ)) (p q r : Amounts) (x y : List ℕ)
+    → PutsAll a b p q x → PutsPart b c q r y
     → PutsPart a c p r (x ++ y)
 PutsPart-second a b c p q r x y all part = (
   all.0 ++ part.0,
@@ -176,11 +202,13 @@ SaysAll-start known before = ([], sym (append-nil before), appends_none known)
 said_more : (before now next : List Deed) (says : Amounts) (amount : Option ℕ) → now ≡ before ++ map Said says
     → next ≡ now ++ Said amount ∷ [] → next ≡ before ++ map Said (says ++ amount ∷ [])
 said_more before now next says amount is then =
-    one_more before now next (map Said says) (Said amount) is then ∙ ap (λ t. before ++ t) (sym (map-append Said says (amount ∷ [])))
+    one_more before now next (map Said says) (Said amount) is then
+    ∙ ap (λ t. before ++ t) (sym (map-append Said says (amount ∷ [])))
 
 -- one say more
-pub SaysAll-next : (a b c : Option (List ℕ)) (p q r : List Deed) (x piece : List ℕ) (n : ℕ) → SaysAll a b p q x → Appends b c (take n piece)
-    → n ≤ length piece → 0 < n → r ≡ q ++ Said (Some n) ∷ [] → SaysAll a c p r (x ++ take n piece)
+pub SaysAll-next : (a b c : Option (List ℕ)) (p q r : List Deed) (x piece : List ℕ) (n : ℕ)
+    → SaysAll a b p q x → Appends b c (take n piece) → n ≤ length piece → 0 < n → r ≡ q ++ Said (Some n) ∷ []
+    → SaysAll a c p r (x ++ take n piece)
 SaysAll-next a b c p q r x piece n all appended within some then = (
   all.0 ++ Some n ∷ [],
   said_more p q r all.0 (Some n) all.1 then,
@@ -188,8 +216,9 @@ SaysAll-next a b c p q r x piece n all appended within some then = (
 )
 
 -- one say more, which failed
-pub SaysPart-next : (a b c : Option (List ℕ)) (p q r : List Deed) (whole front rest : List ℕ) → whole ≡ front ++ rest → 0 < length rest
-    → SaysAll a b p q front → Keeps b c → r ≡ q ++ Said None ∷ [] → SaysPart a c p r whole
+pub SaysPart-next : (a b c : Option (List ℕ)) (p q r : List Deed) (whole front rest : List ℕ)
+    → whole ≡ front ++ rest → 0 < length rest → SaysAll a b p q front → Keeps b c → r ≡ q ++ Said None ∷ []
+    → SaysPart a c p r whole
 SaysPart-next a b c p q r whole front rest split some all keeps then = (
   all.0 ++ None ∷ [],
   said_more p q r all.0 None all.1 then,

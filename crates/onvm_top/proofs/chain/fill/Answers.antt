@@ -15,15 +15,20 @@ loop-len-init g c = record {
 
 pub loop-len-preserved : goal.loop-len-preserved
 loop-len-preserved g c = record {
-  within = length-written c.loop-len.len c.in_ok-count.count c.loop-len.room c.take.new.into _ (omega arith) c.in_ok-count.ensures.bound.0;
+  within =
+      length-written c.loop-len.len c.in_ok-count.count c.loop-len.room c.take.new.into _
+      (omega arith) c.in_ok-count.ensures.bound.0;
   same = search rules;
   named = search rules;
   taken =
       let P : List ℕ → Type 0 = Consumes (g.S.Source.left c.args.source.now) (g.S.Source.left c.take.new.self) in
       subst P
-      (sym (take-written c.loop-len.len c.in_ok-count.count c.loop-len.room c.take.new.into _ (omega arith) c.in_ok-count.ensures.bound.0))
-      (Consumes-append _ _ _ (take c.loop-len.len c.loop-len.room) (take c.in_ok-count.count c.take.new.into) c.loop-len.invariant.taken c.in_ok-count.ensures.bytes.0);
-  moved = MovedSince-next c.loop-len.len c.in_ok-count.count _ _ _ c.loop-len.invariant.moved (search rules) (omega arith);
+      (sym (take-written c.loop-len.len c.in_ok-count.count c.loop-len.room c.take.new.into _
+      (omega arith) c.in_ok-count.ensures.bound.0))
+      (Consumes-append _ _ _ (take c.loop-len.len c.loop-len.room)
+      (take c.in_ok-count.count c.take.new.into) c.loop-len.invariant.taken c.in_ok-count.ensures.bytes.0);
+  moved =
+      MovedSince-next c.loop-len.len c.in_ok-count.count _ _ _ c.loop-len.invariant.moved (search rules) (omega arith);
 }
 
 pub returns-clause-ok : goal.returns-clause-ok

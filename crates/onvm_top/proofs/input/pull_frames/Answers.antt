@@ -21,7 +21,8 @@ pulls-preserved c =
       within = c.add.ensures.within;
       read = λ fed read.
           let P : List Frame → Type 0 = λ fs. HasRead fed fs c.next.new.self in
-          subst P (sym one) (HasRead-pulled fed c.pulls.received c.in-Frame.frame c.pulls.reader c.next.new.self (c.pulls.invariant.read fed read) pulls);
+          subst P (sym one) (HasRead-pulled fed c.pulls.received c.in-Frame.frame c.pulls.reader c.next.new.self
+          (c.pulls.invariant.read fed read) pulls);
     }
 
 pub returns-in-End-clause-ended : goal.returns-in-End-clause-ended
@@ -35,7 +36,8 @@ returns-in_err-add-in-Frame-clause-too_many c =
     λ is fed more read.
     let added : c.add.result ≡ Err fault.TooMany = cc (passed.1, passed.2, c.in_err-add-in-Frame.was, is) in
     let pulls : Pulls c.pulls.reader (pull.Frame c.in-Frame.frame) c.next.new.self = search rules in
-    PassesLimit-pulled fed more c.pulls.received c.in-Frame.frame c.pulls.reader c.next.new.self (c.pulls.invariant.read fed read) pulls
+    PassesLimit-pulled fed more c.pulls.received c.in-Frame.frame c.pulls.reader c.next.new.self
+    (c.pulls.invariant.read fed read) pulls
     (c.add.ensures.too_many added)
 
 pub returns-in-Bad-clause-broken : goal.returns-in-Bad-clause-broken
@@ -44,7 +46,8 @@ returns-in-Bad-clause-broken c = λ told is fed more read last.
     let P : PcapFault → Type 0 = λ f. IsCaptureUpTo (fed ++ more) c.pulls.received f in
     let pulls : Pulls c.pulls.reader (pull.Bad c.in-Bad.fault) c.next.new.self = search rules in (
       c.pulls.received,
-      subst P same (IsCaptureUpTo-met fed more c.pulls.received c.pulls.reader c.in-Bad.fault (c.pulls.invariant.read fed read)
+      subst P same
+          (IsCaptureUpTo-met fed more c.pulls.received c.pulls.reader c.in-Bad.fault (c.pulls.invariant.read fed read)
           (λ finished. last (sym c.pulls.invariant.finished ∙ finished)) pulls.1),
       c.pulls.invariant.within,
     )

@@ -35,10 +35,13 @@ returns-then-branch-clause-whole g c = λ text told.
     let read = c.pieces.invariant.read in
     let feeds = c.in_ok-feed_piece.ensures.ok in
     let fed : List ℕ = read.0 ++ feeds.bytes in
-    let now = HasRead-fed read.0 feeds.bytes c.pieces.received c.pieces.reader c.feed_piece.new.reader read.2 feeds.spelling feeds.place feeds.rest in
+    let now =
+    HasRead-fed read.0 feeds.bytes c.pieces.received c.pieces.reader c.feed_piece.new.reader read.2 feeds.spelling
+    feeds.place feeds.rest in
     let is = c.in_ok-pull_frames.ensures.ended (ap Ok c.if-branch.true) fed now in
     let all = Consumes-append _ _ _ read.0 feeds.bytes read.1 feeds.consumed in
-    let whole = Consumes-to_end _ _ text fed told all (feeds.at_end (c.in_ok-pull_frames.ensures.finished.0 ∙ c.if-branch.true)) in
+    let whole =
+    Consumes-to_end _ _ text fed told all (feeds.at_end (c.in_ok-pull_frames.ensures.finished.0 ∙ c.if-branch.true)) in
     let Text : List ℕ → Type 0 = λ t. IsCapture t c.into_frames.result in
     let Frames : List Frame → Type 0 = λ fs. IsCapture fed fs in
     subst Text (sym whole) (subst Frames (sym c.into_frames.ensures.same) is)
@@ -48,7 +51,9 @@ pieces-smaller g c =
     let kept = c.pieces.invariant in
     let feeds = c.in_ok-feed_piece.ensures.ok in
     let fed : List ℕ = kept.read.0 ++ feeds.bytes in
-    let now = HasRead-fed kept.read.0 feeds.bytes c.pieces.received c.pieces.reader c.feed_piece.new.reader kept.read.2 feeds.spelling feeds.place feeds.rest in
+    let now =
+    HasRead-fed kept.read.0 feeds.bytes c.pieces.received c.pieces.reader c.feed_piece.new.reader kept.read.2
+    feeds.spelling feeds.place feeds.rest in
     let then = c.in_ok-pull_frames.ensures.read fed now in
     let some = feeds.some (c.in_ok-pull_frames.ensures.finished.0 ∙ c.if-branch.false) in
     let before = HasRead-length kept.read.0 c.pieces.received c.pieces.reader kept.read.2 in
@@ -61,9 +66,12 @@ pieces-preserved g c =
     let kept = c.pieces.invariant in
     let feeds = c.in_ok-feed_piece.ensures.ok in
     let fed : List ℕ = kept.read.0 ++ feeds.bytes in
-    let now = HasRead-fed kept.read.0 feeds.bytes c.pieces.received c.pieces.reader c.feed_piece.new.reader kept.read.2 feeds.spelling feeds.place feeds.rest in
+    let now =
+    HasRead-fed kept.read.0 feeds.bytes c.pieces.received c.pieces.reader c.feed_piece.new.reader kept.read.2
+    feeds.spelling feeds.place feeds.rest in
     let early = c.in_ok-pull_frames.ensures.more (ap Ok c.if-branch.false) in
-    let Since : ℕ → Type 0 = λ n. MovedSince n (g.S.Source.takes c.args.source.now) (g.S.Source.takes c.feed_piece.new.source) in
+    let Since : ℕ → Type 0 =
+    λ n. MovedSince n (g.S.Source.takes c.args.source.now) (g.S.Source.takes c.feed_piece.new.source) in
     let some = feeds.some (c.in_ok-pull_frames.ensures.finished.0 ∙ c.if-branch.false) in
     record {
       within = c.in_ok-pull_frames.ensures.within;
@@ -82,28 +90,36 @@ pieces-preserved g c =
 
 pub returns-in_err-pull_frames-clause-broken : goal.returns-in_err-pull_frames-clause-broken
 returns-in_err-pull_frames-clause-broken g c =
-    let passed = err_from_is_err_and c.from_residual-in_err-pull_frames.result c.from_residual-in_err-pull_frames.ensures.1 in
+    let passed =
+    err_from_is_err_and c.from_residual-in_err-pull_frames.result c.from_residual-in_err-pull_frames.ensures.1 in
     λ told is text left.
-    let pulled : c.pull_frames.result ≡ Err (fault.Broken told) = cc (passed.1, passed.2, c.in_err-pull_frames.was, is) in
+    let pulled : c.pull_frames.result ≡ Err (fault.Broken told) =
+    cc (passed.1, passed.2, c.in_err-pull_frames.was, is) in
     let read = c.pieces.invariant.read in
     let feeds = c.in_ok-feed_piece.ensures.ok in
     let fed : List ℕ = read.0 ++ feeds.bytes in
-    let now = HasRead-fed read.0 feeds.bytes c.pieces.received c.pieces.reader c.feed_piece.new.reader read.2 feeds.spelling feeds.place feeds.rest in
+    let now =
+    HasRead-fed read.0 feeds.bytes c.pieces.received c.pieces.reader c.feed_piece.new.reader read.2 feeds.spelling
+    feeds.place feeds.rest in
     let all = Consumes-append _ _ _ read.0 feeds.bytes read.1 feeds.consumed in
     let rest = Consumes-rest _ _ text fed left all in
     let P : List ℕ → Type 0 = λ t. (frames : List Frame) × IsCaptureUpTo t frames told × IsWithinLimits frames in
     subst P (sym rest.2)
-    (c.pull_frames.ensures.broken told pulled fed rest.0 now (λ finished. IsAtEnd-left _ rest.0 rest.1 (feeds.at_end finished)))
+    (c.pull_frames.ensures.broken told pulled fed rest.0 now
+    (λ finished. IsAtEnd-left _ rest.0 rest.1 (feeds.at_end finished)))
 
 pub returns-in_err-pull_frames-clause-too_many : goal.returns-in_err-pull_frames-clause-too_many
 returns-in_err-pull_frames-clause-too_many g c =
-    let passed = err_from_is_err_and c.from_residual-in_err-pull_frames.result c.from_residual-in_err-pull_frames.ensures.1 in
+    let passed =
+    err_from_is_err_and c.from_residual-in_err-pull_frames.result c.from_residual-in_err-pull_frames.ensures.1 in
     λ is text left.
     let pulled : c.pull_frames.result ≡ Err fault.TooMany = cc (passed.1, passed.2, c.in_err-pull_frames.was, is) in
     let read = c.pieces.invariant.read in
     let feeds = c.in_ok-feed_piece.ensures.ok in
     let fed : List ℕ = read.0 ++ feeds.bytes in
-    let now = HasRead-fed read.0 feeds.bytes c.pieces.received c.pieces.reader c.feed_piece.new.reader read.2 feeds.spelling feeds.place feeds.rest in
+    let now =
+    HasRead-fed read.0 feeds.bytes c.pieces.received c.pieces.reader c.feed_piece.new.reader read.2 feeds.spelling
+    feeds.place feeds.rest in
     let all = Consumes-append _ _ _ read.0 feeds.bytes read.1 feeds.consumed in
     let rest = Consumes-rest _ _ text fed left all in
     let P : List ℕ → Type 0 = PassesLimit in
@@ -122,7 +138,8 @@ pub returns-in_err-feed_piece-clause-ended : goal.returns-in_err-feed_piece-clau
 returns-in_err-feed_piece-clause-ended g c =
     let passed = err_from_is_err_and c.from_residual.result c.from_residual.ensures.1 in
     let kept = c.pieces.invariant in
-    let bound = length-fed kept.read.0 c.pieces.received c.pieces.reader kept.read.2 kept.within kept.short kept.inside in
+    let bound =
+    length-fed kept.read.0 c.pieces.received c.pieces.reader kept.read.2 kept.within kept.short kept.inside in
     λ unread. elim c.in_err-feed_piece.ensures.only [
       | inl read ↦ absurd (unread (cc (passed.1, passed.2, read)))
       | inr memory ↦

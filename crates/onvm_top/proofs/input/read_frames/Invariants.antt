@@ -15,7 +15,8 @@ invariant-pieces g l = record {
   short : length l.reader.rest < HEADER_LEN + record_limit;
   inside : (s : Spelling) → l.reader.spelling ≡ Some s → length l.reader.rest < record_limit;
   named : g.S.Source.name l.source ≡ g.S.Source.name l.initial.source;
-  read : (fed : List ℕ) × Consumes (g.S.Source.left l.initial.source) (g.S.Source.left l.source) fed × HasRead fed l.received l.reader
+  read : (fed : List ℕ) × Consumes (g.S.Source.left l.initial.source) (g.S.Source.left l.source) fed
+      × HasRead fed l.received l.reader
       × MovedSince (length fed) (g.S.Source.takes l.initial.source) (g.S.Source.takes l.source);
 }
 

@@ -8,10 +8,12 @@ pub returns-in-Err-Broken-clause-err : goal.returns-in-Err-Broken-clause-err
 returns-in-Err-Broken-clause-err g c =
     let broken : c.read_frames-frames.result ≡ Err (input.Broken c.in-Err-Broken.fault) = search rules in
     let unread : c.read_frames-frames.result ≢ Err input.Read = λ read. cc in
-    let calls = IsRead-shut (g.H.Host.deeds c.args.host.now) (g.H.Host.deeds c.open_input.new.self) (g.H.Host.deeds c.shut.new.self)
+    let calls =
+    IsRead-shut (g.H.Host.deeds c.args.host.now) (g.H.Host.deeds c.open_input.new.self) (g.H.Host.deeds c.shut.new.self)
     c.args.name.now (g.H.Input.Source.name c.read_frames-frames.new.source) (g.H.Input.Source.takes c.in-Ok.capture)
     (g.H.Input.Source.takes c.read_frames-frames.new.source) capture_limit c.in-Ok.ensures.told c.shut.ensures.told
-    (c.read_frames-frames.ensures.named ∙ c.in-Ok.ensures.named) c.in-Ok.ensures.fresh (c.read_frames-frames.ensures.ended unread) in (
+    (c.read_frames-frames.ensures.named ∙ c.in-Ok.ensures.named) c.in-Ok.ensures.fresh
+    (c.read_frames-frames.ensures.ended unread) in (
       calls.0,
       calls.1,
       inl (
@@ -29,10 +31,12 @@ pub returns-in-Err-TooMany-clause-err : goal.returns-in-Err-TooMany-clause-err
 returns-in-Err-TooMany-clause-err g c =
     let large : c.read_frames-frames.result ≡ Err input.TooMany = search rules in
     let unread : c.read_frames-frames.result ≢ Err input.Read = λ read. cc in
-    let calls = IsRead-shut (g.H.Host.deeds c.args.host.now) (g.H.Host.deeds c.open_input.new.self) (g.H.Host.deeds c.shut.new.self)
+    let calls =
+    IsRead-shut (g.H.Host.deeds c.args.host.now) (g.H.Host.deeds c.open_input.new.self) (g.H.Host.deeds c.shut.new.self)
     c.args.name.now (g.H.Input.Source.name c.read_frames-frames.new.source) (g.H.Input.Source.takes c.in-Ok.capture)
     (g.H.Input.Source.takes c.read_frames-frames.new.source) capture_limit c.in-Ok.ensures.told c.shut.ensures.told
-    (c.read_frames-frames.ensures.named ∙ c.in-Ok.ensures.named) c.in-Ok.ensures.fresh (c.read_frames-frames.ensures.ended unread) in (
+    (c.read_frames-frames.ensures.named ∙ c.in-Ok.ensures.named) c.in-Ok.ensures.fresh
+    (c.read_frames-frames.ensures.ended unread) in (
       calls.0,
       calls.1,
       inr (inl (
@@ -40,6 +44,10 @@ returns-in-Err-TooMany-clause-err g c =
         calls.2,
         λ files told.
             let opened = c.in-Ok.ensures.left files told in
-            record { text = opened.0; file = opened.1; passes = c.read_frames-frames.ensures.too_many large opened.0 opened.2 },
+            record {
+              text = opened.0;
+              file = opened.1;
+              passes = c.read_frames-frames.ensures.too_many large opened.0 opened.2;
+            },
       )),
     )

@@ -7,7 +7,8 @@ abbrev pub invariant-loop-rest : goal.invariant-loop-rest
 invariant-loop-rest g l =
     (g.K.Sink.name l.sink ≡ g.K.Sink.name l.initial.sink)
     × ((front : List ℕ) × (l.piece ≡ front ++ l.rest)
-    × PutsAll (g.K.Sink.held l.initial.sink) (g.K.Sink.held l.sink) (g.K.Sink.puts l.initial.sink) (g.K.Sink.puts l.sink) front)
+    × PutsAll (g.K.Sink.held l.initial.sink) (g.K.Sink.held l.sink) (g.K.Sink.puts l.initial.sink)
+    (g.K.Sink.puts l.sink) front)
 
 abbrev pub decreases-loop-rest : goal.decreases-loop-rest
 decreases-loop-rest g l = length l.rest

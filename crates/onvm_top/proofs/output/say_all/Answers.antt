@@ -21,5 +21,6 @@ loop-rest-preserved g c =
 pub returns-in_err-count-clause-err : goal.returns-in_err-count-clause-err
 returns-in_err-count-clause-err g c =
     let kept = c.loop-rest.invariant in
-    OnErr-always _ _ (SaysPart-next _ _ _ _ _ _ c.args.piece.now kept.1.0 c.loop-rest.rest.now kept.1.1 (search rules) kept.1.2
+    OnErr-always _ _
+    (SaysPart-next _ _ _ _ _ _ c.args.piece.now kept.1.0 c.loop-rest.rest.now kept.1.1 (search rules) kept.1.2
     c.in_err-count.ensures.bytes c.in_err-count.ensures.told)

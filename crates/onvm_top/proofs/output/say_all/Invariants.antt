@@ -7,7 +7,8 @@ abbrev pub invariant-loop-rest : goal.invariant-loop-rest
 invariant-loop-rest g l =
     (g.H.Host.files l.host ≡ g.H.Host.files l.initial.host)
     × ((front : List ℕ) × (l.piece ≡ front ++ l.rest)
-    × SaysAll (g.H.Host.said l.initial.host) (g.H.Host.said l.host) (g.H.Host.deeds l.initial.host) (g.H.Host.deeds l.host) front)
+    × SaysAll (g.H.Host.said l.initial.host) (g.H.Host.said l.host) (g.H.Host.deeds l.initial.host)
+    (g.H.Host.deeds l.host) front)
 
 abbrev pub decreases-loop-rest : goal.decreases-loop-rest
 decreases-loop-rest g l = length l.rest

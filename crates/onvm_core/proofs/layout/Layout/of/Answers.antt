@@ -19,8 +19,8 @@ loop-at-preserved c =
           ∙ ap (λ cores. slice_set cores c.loop-at.at
           (slice_index_or c.args.plan.now.functions c.loop-at.at c.index-functions-at.result).core)
           c.loop-at.invariant.filled
-          ∙ fill_next (λ f. f.core) c.args.plan.now.functions c.loop-at.at MAX_FUNCTIONS c.index-functions-at.result less
-          c.args.plan.now.kept.function_count.1;
+          ∙ fill_next (λ f. f.core) c.args.plan.now.functions c.loop-at.at MAX_FUNCTIONS c.index-functions-at.result
+          less c.args.plan.now.kept.function_count.1;
       within = omega (arith, less);
     }
 
