@@ -85,6 +85,21 @@ pub fn parse(bytes: &[u8]) -> Heads
     }
 }
 
+/// Reads the network head alone.
+pub fn network(bytes: &[u8]) -> Net
+    ensures { result ≡ net_of bytes.now }
+{
+    if bytes.len() < ETHERNET_LEN {
+        return Net::None;
+    }
+    let at = if is_tagged(bytes) {
+        TAGGED_TYPE_AT
+    } else {
+        TYPE_AT
+    };
+    read_net(u16_at(bytes, at), at + 2, bytes).0
+}
+
 /// Whether a tag, and a type behind it, follow the addresses.
 pub fn is_tagged(bytes: &[u8]) -> bool
     ensures { result ≡ is_tagged bytes.now }

@@ -1,0 +1,4 @@
+pub mod Leading
+pub mod Parting
+pub mod Ranging
+pub mod Spans

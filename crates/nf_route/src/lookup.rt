@@ -1,0 +1,59 @@
+//! The entry that wins, by a look at each.
+ghost use Rattle.std.specs.Prelude.{◌≡◌, ◌<◌, ◌↔◌, Some, IsTrue, MatchOption};
+ghost use Rattle.onvm_base.specs.declared.function.RouteEntry.{RouteEntry};
+ghost use Rattle.nf_api.specs.Routing.{IsFound, NoneMatches, Wins, bits_of, towards};
+
+use crate::span::Span;
+use onvm_base::{ChainStep, Prefix, RouteEntry, Verdict};
+
+/// The verdict for an address (RFC 1812, 5.2.4.3).
+pub fn find(entries: &[RouteEntry], target: u32) -> Verdict
+    ensures { IsFound entries.now target result }
+{
+    match winner(entries, target) {
+        Some(entry) => towards(entry.target),
+        None => Verdict::Drop,
+    }
+}
+
+// The entry that wins for an address.
+fn winner(entries: &[RouteEntry], target: u32) -> Option<RouteEntry>
+    ensures { MatchOption result (NoneMatches entries.now target) (Wins entries.now target) }
+{
+    let mut best = None;
+    for entry in entries {
+        if Span::of(entry.prefix).has(target) && is_longer(entry.prefix, best) {
+            best = Some(*entry);
+        }
+    }
+    best
+}
+
+// Whether a prefix is longer than the one of the best entry, if there is one.
+fn is_longer(prefix: Prefix, best: Option<RouteEntry>) -> bool
+    ensures { IsTrue result ↔ ((other : RouteEntry) → best ≡ Some other
+        → bits_of other.prefix < bits_of prefix) }
+{
+    match best {
+        Some(other) => bits_of(other.prefix) < bits_of(prefix),
+        None => true,
+    }
+}
+
+fn bits_of(prefix: Prefix) -> u8
+    ensures { result ≡ bits_of prefix }
+{
+    match prefix {
+        Prefix::V4 { length, .. } | Prefix::V6 { length, .. } => length,
+    }
+}
+
+// The verdict that sends a frame to a target.
+fn towards(target: ChainStep) -> Verdict
+    ensures { result ≡ towards target }
+{
+    match target {
+        ChainStep::To(service) => Verdict::ToService(service),
+        ChainStep::Out(port) => Verdict::Out(port),
+    }
+}
