@@ -4,14 +4,14 @@ ghost use Rattle.nf_api.specs.Answers.{Is, aged, life_of};
 ghost use Rattle.onvm_packet.specs.Heads.{net_of};
 
 use onvm_base::{Packet, Verdict};
-use onvm_packet::{Net, parse, set_ttl_at};
+use onvm_packet::{Net, network, set_ttl_at};
 
 /// Takes one off a frame's life, and drops one whose life is over. A frame without a network head
 /// goes on as it is.
 pub fn age(packet: &mut Packet) -> Verdict
     ensures { Is (aged (life_of (net_of packet.old)) packet.old) result packet.new }
 {
-    let net = parse(packet.bytes()).net;
+    let net = network(packet.bytes());
     match life_of(&net) {
         None => Verdict::Next,
         Some(0 | 1) => Verdict::Drop,
