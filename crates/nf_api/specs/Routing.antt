@@ -33,7 +33,8 @@ Matches table target at entry = (slice_get table at ≡ Some entry) × (covers e
 pub record Wins (table : List RouteEntry) (target : ℕ) (entry : RouteEntry) : Type 0 where
   pub at : ℕ
   pub matches : Matches table target at entry
-  pub longest : (i : ℕ) (other : RouteEntry) → Matches table target i other → bits_of other.prefix ≤ bits_of entry.prefix
+  pub longest : (i : ℕ) (other : RouteEntry) → Matches table target i other
+      → bits_of other.prefix ≤ bits_of entry.prefix
   pub first : (i : ℕ) (other : RouteEntry) → Matches table target i other → i < at
       → bits_of other.prefix ≢ bits_of entry.prefix
 

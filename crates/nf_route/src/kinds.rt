@@ -12,7 +12,7 @@ use crate::services::Services;
 use crate::table::Table;
 use nf_api::{Meta, NetFunction};
 use onvm_base::{Kind, NoMemory, Packet, Verdict};
-use onvm_packet::{Net, flow_hash, parse};
+use onvm_packet::{Net, flow_hash, network, parse};
 use std::alloc::Global;
 
 /// A function that sends a frame on by its addresses.
@@ -48,10 +48,11 @@ impl Route {
     pub fn verdict(&self, bytes: &[u8]) -> Verdict
         ensures { (port : PortId) → IsAnswer (kind_of self.now) port bytes.now result bytes.now }
     {
-        let heads = parse(bytes);
         match self {
-            Route::Route { table } => routed(table, &heads.net),
-            Route::Balance { services } => Verdict::ToService(services.pick(flow_hash(&heads))),
+            Route::Route { table } => routed(table, &network(bytes)),
+            Route::Balance { services } => {
+                Verdict::ToService(services.pick(flow_hash(&parse(bytes))))
+            }
         }
     }
 }

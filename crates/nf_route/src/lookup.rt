@@ -1,7 +1,7 @@
 //! The entry that wins, by a look at each.
-ghost use Rattle.std.specs.Prelude.{◌≡◌, ◌<◌, ◌↔◌, Some, IsTrue, MatchOption};
+ghost use Rattle.std.specs.Prelude.{◌≡◌, ◌<◌, ◌↔◌, true, Some, IsTrue, MatchOption};
 ghost use Rattle.onvm_base.specs.declared.function.RouteEntry.{RouteEntry};
-ghost use Rattle.nf_api.specs.Routing.{IsFound, NoneMatches, Wins, bits_of, towards};
+ghost use Rattle.nf_api.specs.Routing.{IsFound, NoneMatches, Wins, bits_of, covers, towards};
 
 use crate::span::Span;
 use onvm_base::{ChainStep, Prefix, RouteEntry, Verdict};
@@ -22,11 +22,20 @@ fn winner(entries: &[RouteEntry], target: u32) -> Option<RouteEntry>
 {
     let mut best = None;
     for entry in entries {
-        if Span::of(entry.prefix).has(target) && is_longer(entry.prefix, best) {
+        if takes_lead(entry, best, target) {
             best = Some(*entry);
         }
     }
     best
+}
+
+// Whether an entry has the address, by a longer prefix than the best entry before it.
+fn takes_lead(entry: &RouteEntry, best: Option<RouteEntry>, target: u32) -> bool
+    ensures { IsTrue result ↔ ((covers entry.now.prefix target ≡ true)
+        × ((other : RouteEntry) → best ≡ Some other
+        → bits_of other.prefix < bits_of entry.now.prefix)) }
+{
+    Span::of(entry.prefix).has(target) && is_longer(entry.prefix, best)
 }
 
 // Whether a prefix is longer than the one of the best entry, if there is one.

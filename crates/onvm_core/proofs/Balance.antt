@@ -1,11 +1,10 @@
 -- Each frame is recorded or in a buffer, once, from its take or record on.
-use Rattle.std.proofs.Common.{◌≡◌, ℕ, ◌+◌, ◌*◌, ◌<◌, ◌≤◌, zero, suc, add-zero, Bool, true, false, ◌⊎◌, inl, inr, List, [], ◌∷◌, length, refl, sym, ◌∙◌, ap, subst, arith, Option, Some, None}
-use Rattle.std.specs.Prelude.{slice_get, ◌==◌, nat_lt}
+use Rattle.std.proofs.Common.{◌≡◌, ℕ, ◌+◌, ◌*◌, ◌<◌, ◌≤◌, zero, suc, add-zero, Bool, true, false, inl, inr, [], ◌∷◌, length, refl, sym, ◌∙◌, ap, subst, arith, Option, Some, None}
+use Rattle.std.specs.Prelude.{◌==◌, nat_lt}
 use Rattle.std.proofs.lemmas.Bool.{cases_Bool, eqb-true, eq-eqb, ne_eqb, cases_order, lt-ltb, le-leb, lt-leb}
 use Rattle.onvm_base.specs.declared.ids.RingId.{RingId}
 use Rattle.onvm_base.specs.declared.ids.BufId.{BufId}
 use Rattle.onvm_base.specs.declared.ids.FrameId.{FrameId}
-use Rattle.onvm_core.specs.declared.layout.Layout.{Layout}
 use Rattle.onvm_core.specs.declared.parcel.Parcel.{Parcel}
 use Rattle.onvm_core.specs.declared.step.Item.TheVariants.{Buffer, Number}
 use Rattle.onvm_core.specs.declared.step.Act.{Act}
@@ -15,23 +14,19 @@ use Rattle.onvm_core.specs.History.{History, popped_from}
 use Rattle.onvm_core.specs.Lawful.{AllowsAct, IsLawful}
 use Rattle.onvm_core.specs.Records.{recorded, records_in}
 use Rattle.onvm_core.specs.Places.{how_many, one_if, all_below}
-use Rattle.onvm_core.specs.Logs.{Setting, of_port, Log, log_of, feeders, frame_after, IsNumbered}
-use Rattle.onvm_core.specs.Receiving.{ReceivePhase, asked, sought, receive_after, receive_phase, done_in, IsBetween, IsMark, MayReceive, MayReceiveFor}
-use Rattle.onvm_core.specs.Sending.{SendPhase, send_phase, MaySend}
-use Rattle.onvm_core.specs.Blocks.{Kind, kind_of, MayFollow, IsOfBlocks, AllOfBlocks}
+use Rattle.onvm_core.specs.Logs.{Setting, of_port, Log, log_of, frame_after, IsNumbered}
+use Rattle.onvm_core.specs.Receiving.{receive_phase, MayReceive}
+use Rattle.onvm_core.specs.Blocks.{kind_of, MayFollow, IsOfBlocks, AllOfBlocks}
 use Rattle.onvm_core.specs.Frames.{Load, load, load_of, load_after, block_frame, frame_of, same_frame, has_frame, buffers_with, records_of, begun_in, has_begun, AllEnded, AllInPool}
 use Rattle.onvm_base.specs.declared.outcome.Record.{Record}
-use Rattle.onvm_base.specs.declared.ids.RingId.TheVariants.{Lane, Output, Mail}
-use Rattle.onvm_core.specs.declared.layout.Word.TheVariants.{Pool as PoolWord, Cell, Post as PostWord, Weight}
 use Rattle.onvm_core.specs.declared.entry.Entry.{Entry}
-use Rattle.onvm_core.specs.Receiving.ReceivePhase.{Between, Asks, Seeks, Sees, Took, Barred}
-use Rattle.onvm_core.specs.Sending.SendPhase.{Free, Moves as Sending, TurnsBack}
-use Rattle.onvm_core.specs.Blocks.Kind.{Receives, Sends, Handles, Ticks, Leads}
 use Rattle.std.specs.Prelude.{◌&&◌, nat_le}
 use Rattle.onvm_core.specs.Frames.Load.{Loaded}
 use Rattle.onvm_core.proofs.Once.{how_many-append}
 use Rattle.onvm_core.proofs.Loads.{own_load, own_load_is, HasLoad, pool_load, popped_load, content_loaded}
 use Rattle.onvm_core.proofs.Hands.{LetsGo, lets_go}
+use Rattle.std.proofs.lemmas.Option.{slice_get_within}
+use Rattle.onvm_core.proofs.Begun.{starts, own_begins, other_starts, kind_receives, kind_other}
 
 -- Counts below n of two tests that agree but at one number
 
@@ -39,30 +34,28 @@ same_counts : (f g : ℕ → Bool) (n : ℕ) → ((k : ℕ) → f k ≡ g k) →
 same_counts f g zero h = refl
 same_counts f g (suc n) h = rw (h n, same_counts f g n h) refl
 
-same_below : (f g : ℕ → Bool) (n x : ℕ) → n ≤ x → ((k : ℕ) → (k ≡ x → ⊥) → f k ≡ g k) → how_many f (all_below n) ≡ how_many g (all_below n)
+same_below : (f g : ℕ → Bool) (n x : ℕ) → n ≤ x → ((k : ℕ) → (k ≡ x → ⊥) → f k ≡ g k)
+    → how_many f (all_below n) ≡ how_many g (all_below n)
 same_below f g zero x le h = refl
 same_below f g (suc n) x le h = rw (h n (λ e. omega arith), same_below f g n x (omega arith) h) refl
 
-change_one : (f g : ℕ → Bool) (n x : ℕ) → x < n → ((k : ℕ) → (k ≡ x → ⊥) → f k ≡ g k) → how_many f (all_below n) + one_if (g x) ≡ how_many g (all_below n) + one_if (f x)
+change_one : (f g : ℕ → Bool) (n x : ℕ) → x < n → ((k : ℕ) → (k ≡ x → ⊥) → f k ≡ g k)
+    → how_many f (all_below n) + one_if (g x) ≡ how_many g (all_below n) + one_if (f x)
 change_one f g zero x lt h = absurd (omega arith)
 change_one f g (suc n) x lt h =
     elim (cases_order x n) [
-      | inl e ↦ rw e (omega (arith, same_below f g n n (omega arith) (subst (λ y. (k : ℕ) → (k ≡ y → ⊥) → f k ≡ g k) e h)))
+      | inl e ↦
+          rw e (omega (arith, same_below f g n n (omega arith) (subst (λ y. (k : ℕ) → (k ≡ y → ⊥) → f k ≡ g k) e h)))
       | inr (inl less) ↦ omega (arith, change_one f g n x less h, ap one_if (h n (λ e. omega arith)))
       | inr (inr more) ↦ absurd (omega arith)
     ]
-
--- how many frames like this one an act begins
-abbrev pub starts : FrameId → FrameId → Act → ℕ
-starts fresh frame (Take b) = one_if (same_frame fresh frame)
-starts fresh frame (Look word seen (Some told)) = one_if (same_frame told.frame frame)
-starts fresh frame _ = 0
 
 abbrev told_of : FrameId → Act → ℕ
 told_of frame act = how_many (λ (told : Record). same_frame told.frame frame) (recorded act)
 
 abbrev count_after : FrameId → FrameId → Act → (ℕ → Option Load) → ℕ → ℕ
-count_after fresh frame act loads n = how_many (λ buf. has_frame frame (load_after buf fresh act (loads buf))) (all_below n)
+count_after fresh frame act loads n =
+    how_many (λ buf. has_frame frame (load_after buf fresh act (loads buf))) (all_below n)
 
 abbrev count_of : FrameId → (ℕ → Option Load) → ℕ → ℕ
 count_of frame loads n = how_many (λ buf. has_frame frame (loads buf)) (all_below n)
@@ -70,12 +63,15 @@ count_of frame loads n = how_many (λ buf. has_frame frame (loads buf)) (all_bel
 -- what must be known of what the buffers have before an act
 abbrev pub Fits : (ℕ → Option Load) → ℕ → Act → Type 0
 Fits loads n (Take b) = (b.0 < n) × (loads b.0 ≡ None)
-Fits loads n (Give b outcome parcel) = (b.0 < n) × ((what : Load) × (loads b.0 ≡ Some what) × (frame_of what ≡ parcel.frame))
+Fits loads n (Give b outcome parcel) =
+    (b.0 < n) × ((what : Load) × (loads b.0 ≡ Some what) × (frame_of what ≡ parcel.frame))
 Fits loads n (Push r (Buffer b parcel)) = (what : Load) × (loads b.0 ≡ Some what) × (frame_of what ≡ parcel.frame)
 Fits loads n (Pop r (Buffer b parcel)) = loads b.0 ≡ Some (Loaded parcel)
 Fits loads n _ = Unit {0}
 
-keeps : (fresh frame : FrameId) (loads : ℕ → Option Load) (b : BufId) (parcel : Parcel) (what : Load) → loads b.0 ≡ Some what → frame_of what ≡ parcel.frame → (buf : ℕ) → has_frame frame (load_of buf (Buffer b parcel) (loads buf)) ≡ has_frame frame (loads buf)
+keeps : (fresh frame : FrameId) (loads : ℕ → Option Load) (b : BufId) (parcel : Parcel) (what : Load)
+    → loads b.0 ≡ Some what → frame_of what ≡ parcel.frame → (buf : ℕ)
+    → has_frame frame (load_of buf (Buffer b parcel) (loads buf)) ≡ has_frame frame (loads buf)
 keeps fresh frame loads b parcel what has of buf =
     elim (cases_Bool (b.0 == buf)) [
       | inl hit ↦ let e : loads buf ≡ Some what = subst (λ k. loads k ≡ Some what) (eqb-true b.0 buf hit) has in
@@ -84,25 +80,41 @@ keeps fresh frame loads b parcel what has of buf =
     ]
 
 -- frames in buffers and recorded, before and after an act
-count_step : (fresh frame : FrameId) (act : Act) (loads : ℕ → Option Load) (n : ℕ) → Fits loads n act → count_after fresh frame act loads n + told_of frame act ≡ count_of frame loads n + starts fresh frame act
+count_step : (fresh frame : FrameId) (act : Act) (loads : ℕ → Option Load) (n : ℕ) → Fits loads n act
+    → count_after fresh frame act loads n + told_of frame act ≡ count_of frame loads n + starts fresh frame act
 count_step fresh frame (Take b) loads n fits =
-    let changed : count_after fresh frame (Take b) loads n + one_if (has_frame frame (loads b.0)) ≡ count_of frame loads n + one_if (has_frame frame (load_after b.0 fresh (Take b) (loads b.0)))
-    = change_one (λ buf. has_frame frame (load_after buf fresh (Take b) (loads buf))) (λ buf. has_frame frame (loads buf)) n b.0 fits.0
+    let changed : count_after fresh frame (Take b) loads n + one_if (has_frame frame (loads b.0))
+    ≡ count_of frame loads n + one_if (has_frame frame (load_after b.0 fresh (Take b) (loads b.0)))
+    = change_one (λ buf. has_frame frame (load_after buf fresh (Take b) (loads buf)))
+    (λ buf. has_frame frame (loads buf)) n b.0 fits.0
     (λ k apart. rw (ne_eqb b.0 k (λ e. apart (sym e))) refl) in
     let one : one_if (has_frame frame (loads b.0)) ≡ 0 = rw fits.1 refl in
-    let two : one_if (has_frame frame (load_after b.0 fresh (Take b) (loads b.0))) ≡ one_if (same_frame fresh frame) = rw (eq-eqb b.0 b.0 refl) refl in
+    let two : one_if (has_frame frame (load_after b.0 fresh (Take b) (loads b.0))) ≡ one_if (same_frame fresh frame)
+    = rw (eq-eqb b.0 b.0 refl) refl in
     omega (arith, changed, one, two)
 count_step fresh frame (Give b outcome parcel) loads n fits =
-    let changed : count_after fresh frame (Give b outcome parcel) loads n + one_if (has_frame frame (loads b.0)) ≡ count_of frame loads n + one_if (has_frame frame (load_after b.0 fresh (Give b outcome parcel) (loads b.0)))
-    = change_one (λ buf. has_frame frame (load_after buf fresh (Give b outcome parcel) (loads buf))) (λ buf. has_frame frame (loads buf)) n b.0 fits.0
+    let changed : count_after fresh frame (Give b outcome parcel) loads n + one_if (has_frame frame (loads b.0))
+    ≡ count_of frame loads n + one_if (has_frame frame (load_after b.0 fresh (Give b outcome parcel) (loads b.0)))
+    = change_one (λ buf. has_frame frame (load_after buf fresh (Give b outcome parcel) (loads buf)))
+    (λ buf. has_frame frame (loads buf)) n b.0 fits.0
     (λ k apart. rw (ne_eqb b.0 k (λ e. apart (sym e))) refl) in
-    let one : one_if (has_frame frame (loads b.0)) ≡ one_if (same_frame parcel.frame frame) = rw fits.1.1 (ap (λ (f : FrameId). one_if (same_frame f frame)) fits.1.2) in
-    let two : one_if (has_frame frame (load_after b.0 fresh (Give b outcome parcel) (loads b.0))) ≡ 0 = rw (eq-eqb b.0 b.0 refl) refl in
+    let one : one_if (has_frame frame (loads b.0)) ≡ one_if (same_frame parcel.frame frame) =
+    rw fits.1.1 (ap (λ (f : FrameId). one_if (same_frame f frame)) fits.1.2) in
+    let two : one_if (has_frame frame (load_after b.0 fresh (Give b outcome parcel) (loads b.0))) ≡ 0 =
+    rw (eq-eqb b.0 b.0 refl) refl in
     omega (arith, changed, one, two)
 count_step fresh frame (Push r (Buffer b parcel)) loads n fits =
-    omega (arith, same_counts (λ buf. has_frame frame (load_of buf (Buffer b parcel) (loads buf))) (λ buf. has_frame frame (loads buf)) n (keeps fresh frame loads b parcel fits.0 fits.1 fits.2))
+    omega (
+      arith,
+      same_counts (λ buf. has_frame frame (load_of buf (Buffer b parcel) (loads buf)))
+          (λ buf. has_frame frame (loads buf)) n (keeps fresh frame loads b parcel fits.0 fits.1 fits.2),
+    )
 count_step fresh frame (Pop r (Buffer b parcel)) loads n fits =
-    omega (arith, same_counts (λ buf. has_frame frame (load_of buf (Buffer b parcel) (loads buf))) (λ buf. has_frame frame (loads buf)) n (keeps fresh frame loads b parcel (Loaded parcel) fits refl))
+    omega (
+      arith,
+      same_counts (λ buf. has_frame frame (load_of buf (Buffer b parcel) (loads buf)))
+          (λ buf. has_frame frame (loads buf)) n (keeps fresh frame loads b parcel (Loaded parcel) fits refl),
+    )
 count_step fresh frame (Push r (Number m)) loads n fits = refl
 count_step fresh frame (Pop r (Number m)) loads n fits = refl
 count_step fresh frame (Split a) loads n fits = refl
@@ -114,8 +126,13 @@ count_step fresh frame (Look w v (Some told)) loads n fits = omega arith
 count_step fresh frame (Post a b) loads n fits = refl
 
 -- what lawful steps and blocks say of the next act
-pub fits_of : (setting : Setting) (before : History) (role : ℕ) (act : Act) → IsLawful setting.layout before → AllowsAct setting.layout before role act → ((r : RingId) (b : BufId) (p : Parcel) → act ≡ Pop r (Buffer b p) → load setting b.0 before ≡ Some (Loaded p)) → LetsGo (own_load setting role (log_of role before)) act → Fits (λ buf. load setting buf before) (setting.layout.ports * setting.layout.buffers) act
-fits_of setting before role (Take b) lawful allowed popped_from lets = (allowed.known, pool_load setting before b.0 allowed.in_pool)
+pub fits_of : (setting : Setting) (before : History) (role : ℕ) (act : Act)
+    → IsLawful setting.layout before → AllowsAct setting.layout before role act
+    → ((r : RingId) (b : BufId) (p : Parcel) → act ≡ Pop r (Buffer b p) → load setting b.0 before ≡ Some (Loaded p))
+    → LetsGo (own_load setting role (log_of role before)) act
+    → Fits (λ buf. load setting buf before) (setting.layout.ports * setting.layout.buffers) act
+fits_of setting before role (Take b) lawful allowed popped_from lets =
+    (allowed.known, pool_load setting before b.0 allowed.in_pool)
 fits_of setting before role (Give b outcome parcel) lawful allowed popped_from lets =
     let had : HasLoad setting before role b.0 lets.0 = own_load_is setting before lawful role b.0 lets.0 lets.1 in
     (allowed.holds.known, (lets.0, had.has, lets.2))
@@ -134,301 +151,156 @@ fits_of setting before role (Post a b) lawful allowed popped_from lets = tt
 
 -- Blocks of earlier steps
 
-pub blocks_before : (setting : Setting) (step : Step) (before : History) → AllOfBlocks setting (step ∷ before) → AllOfBlocks setting before
+pub blocks_before : (setting : Setting) (step : Step) (before : History) → AllOfBlocks setting (step ∷ before)
+    → AllOfBlocks setting before
 blocks_before setting step before all role =
     elim (cases_Bool (step.role == role)) [
       | inl mine ↦ let own : IsOfBlocks setting role (step.act ∷ log_of role before) = rw mine at (all role) in own.1
       | inr foreign ↦ rw foreign at (all role)
     ]
 
-pub own_blocks : (setting : Setting) (step : Step) (before : History) → AllOfBlocks setting (step ∷ before) → IsOfBlocks setting step.role (step.act ∷ log_of step.role before)
-own_blocks setting step before all = let mine : (step.role == step.role) ≡ true = eq-eqb step.role step.role refl in rw mine at (all step.role)
+pub own_blocks : (setting : Setting) (step : Step) (before : History) → AllOfBlocks setting (step ∷ before)
+    → IsOfBlocks setting step.role (step.act ∷ log_of step.role before)
+own_blocks setting step before all =
+    let mine : (step.role == step.role) ≡ true = eq-eqb step.role step.role refl in rw mine at (all step.role)
 
 -- each step adds to a frame's records and buffers just what it begins
-pub total_step : (setting : Setting) (frame : FrameId) (step : Step) (before : History) → IsNumbered setting → IsLawful setting.layout (step ∷ before) → AllOfBlocks setting (step ∷ before)
-    → records_of frame (step ∷ before) + buffers_with setting frame (step ∷ before) ≡ records_of frame before + buffers_with setting frame before + starts (block_frame setting step.role (log_of step.role before)) frame step.act
+pub total_step : (setting : Setting) (frame : FrameId) (step : Step) (before : History)
+    → IsNumbered setting → IsLawful setting.layout (step ∷ before) → AllOfBlocks setting (step ∷ before)
+    → records_of frame (step ∷ before) + buffers_with setting frame (step ∷ before)
+    ≡ records_of frame before + buffers_with setting frame before
+    + starts (block_frame setting step.role (log_of step.role before)) frame step.act
 total_step setting frame step before numbered lawful blocks =
-    let own : IsOfBlocks setting step.role (step.act ∷ log_of step.role before) = own_blocks setting step before blocks in
-    let lets : LetsGo (own_load setting step.role (log_of step.role before)) step.act = lets_go setting step.role (log_of step.role before) step.act numbered own in
-    let popped_from : (r : RingId) (b : BufId) (p : Parcel) → step.act ≡ Pop r (Buffer b p) → load setting b.0 before ≡ Some (Loaded p) = popped_load setting step before lawful (content_loaded setting before lawful.1) in
-    let fits : Fits (λ buf. load setting buf before) (setting.layout.ports * setting.layout.buffers) step.act = fits_of setting before step.role step.act lawful.1 lawful.0.allowed popped_from lets in
-    let counted : buffers_with setting frame (step ∷ before) + told_of frame step.act ≡ buffers_with setting frame before + starts (block_frame setting step.role (log_of step.role before)) frame step.act
-    = count_step (block_frame setting step.role (log_of step.role before)) frame step.act (λ buf. load setting buf before) (setting.layout.ports * setting.layout.buffers) fits in
-    let recs : records_of frame (step ∷ before) ≡ records_of frame before + told_of frame step.act = how_many-append (λ (told : Record). same_frame told.frame frame) (records_in before) (recorded step.act) in
+    let own : IsOfBlocks setting step.role (step.act ∷ log_of step.role before) =
+    own_blocks setting step before blocks in
+    let lets : LetsGo (own_load setting step.role (log_of step.role before)) step.act =
+    lets_go setting step.role (log_of step.role before) step.act numbered own in
+    let popped_from : (r : RingId) (b : BufId) (p : Parcel) → step.act ≡ Pop r (Buffer b p)
+    → load setting b.0 before ≡ Some (Loaded p)
+    = popped_load setting step before lawful (content_loaded setting before lawful.1) in
+    let fits : Fits (λ buf. load setting buf before) (setting.layout.ports * setting.layout.buffers) step.act =
+    fits_of setting before step.role step.act lawful.1 lawful.0.allowed popped_from lets in
+    let counted : buffers_with setting frame (step ∷ before) + told_of frame step.act
+    ≡ buffers_with setting frame before
+    + starts (block_frame setting step.role (log_of step.role before)) frame step.act
+    = count_step (block_frame setting step.role (log_of step.role before)) frame step.act
+    (λ buf. load setting buf before) (setting.layout.ports * setting.layout.buffers) fits in
+    let recs : records_of frame (step ∷ before) ≡ records_of frame before + told_of frame step.act =
+    how_many-append (λ (told : Record). same_frame told.frame frame) (records_in before) (recorded step.act) in
     omega (arith, counted, recs)
 
 -- Which frames have begun
 
-abbrev pub Begins : FrameId → ℕ → ℕ → ℕ → ℕ → Type 0
-Begins frame port was now begun = ((now ≡ was) × (begun ≡ 0)) ⊎ ((now ≡ was + 1) × (begun ≡ one_if (same_frame (record { port = record { 0 = port }; number = was + 1 }) frame)))
-
-asked_begun : (setting : Setting) (done k : ℕ) → begun_in (asked setting done k None) ≡ done
-asked_begun setting done k = elim (cases_Bool (k + 1 == feeders setting)) [ inl met ↦ rw met refl | inr unmet ↦ rw unmet refl ]
-
-sought_begun : (done k seen : ℕ) → begun_in (sought done k seen None) ≡ done
-sought_begun done k seen = elim (cases_Bool (seen == 0)) [ inl met ↦ rw met refl | inr unmet ↦ rw unmet refl ]
-
-told_begins : (frame : FrameId) (setting : Setting) (port done : ℕ) (e : Entry) (told : Record) → IsNumbered setting → frame_after setting port done ≡ Some e → told.frame ≡ e.frame → one_if (same_frame told.frame frame) ≡ one_if (same_frame (record { port = record { 0 = port }; number = done + 1 }) frame)
-told_begins frame setting port done e told numbered found same = ap (λ (f : FrameId). one_if (same_frame f frame)) (same ∙ numbered port done e found)
-
-receive_begins : (setting : Setting) (port : ℕ) (e : Entry) (phase : ReceivePhase) (act : Act) (frame : FrameId) → IsNumbered setting → frame_after setting port (done_in phase) ≡ Some e → MayReceiveFor setting port e phase act → Begins frame port (begun_in phase) (begun_in (receive_after setting phase act)) (starts (record { port = record { 0 = port }; number = done_in phase + 1 }) frame act)
-receive_begins setting port e (Between done) (Take b) frame numbered found may = absurd may
-receive_begins setting port e (Between done) (Give b outcome parcel) frame numbered found may = absurd may
-receive_begins setting port e (Between done) (Push r i) frame numbered found may = absurd may
-receive_begins setting port e (Between done) (Pop r i) frame numbered found may = absurd may
-receive_begins setting port e (Between done) (Split a) frame numbered found may = absurd may
-receive_begins setting port e (Between done) (Join a) frame numbered found may = absurd may
-receive_begins setting port e (Between done) (Full r) frame numbered found may = absurd may
-receive_begins setting port e (Between done) (Empty a) frame numbered found may = absurd may
-receive_begins setting port e (Between done) (Look (PostWord f) v None) frame numbered found may = inl (asked_begun setting done 0, refl)
-receive_begins setting port e (Between done) (Look (PoolWord f g) v None) frame numbered found may = absurd (let off : PoolWord f g ≡ PostWord 0 = may.0 in cc)
-receive_begins setting port e (Between done) (Look (Cell f g) v None) frame numbered found may = absurd (let off : Cell f g ≡ PostWord 0 = may.0 in cc)
-receive_begins setting port e (Between done) (Look (Weight f) v None) frame numbered found may = absurd (let off : Weight f ≡ PostWord 0 = may.0 in cc)
-receive_begins setting port e (Between done) (Look (PostWord f) v (Some told)) frame numbered found may = inr (refl, told_begins frame setting port done e told numbered found (ap (λ (r : Record). r.frame) may.1.told_is))
-receive_begins setting port e (Between done) (Look (PoolWord f g) v (Some told)) frame numbered found may = absurd (let off : PoolWord f g ≡ PostWord 0 = may.0 in cc)
-receive_begins setting port e (Between done) (Look (Cell f g) v (Some told)) frame numbered found may = absurd (let off : Cell f g ≡ PostWord 0 = may.0 in cc)
-receive_begins setting port e (Between done) (Look (Weight f) v (Some told)) frame numbered found may = absurd (let off : Weight f ≡ PostWord 0 = may.0 in cc)
-receive_begins setting port e (Between done) (Post a b) frame numbered found may = absurd may
-receive_begins setting port e (Asks done k) (Take b) frame numbered found may = absurd may
-receive_begins setting port e (Asks done k) (Give b outcome parcel) frame numbered found may = absurd may
-receive_begins setting port e (Asks done k) (Push r i) frame numbered found may = absurd may
-receive_begins setting port e (Asks done k) (Pop r i) frame numbered found may = absurd may
-receive_begins setting port e (Asks done k) (Split a) frame numbered found may = absurd may
-receive_begins setting port e (Asks done k) (Join a) frame numbered found may = absurd may
-receive_begins setting port e (Asks done k) (Full r) frame numbered found may = absurd may
-receive_begins setting port e (Asks done k) (Empty a) frame numbered found may = absurd may
-receive_begins setting port e (Asks done k) (Look w v None) frame numbered found may = inl (asked_begun setting done k, refl)
-receive_begins setting port e (Asks done k) (Look w v (Some told)) frame numbered found may = inr (refl, told_begins frame setting port done e told numbered found (ap (λ (r : Record). r.frame) may.1.told_is))
-receive_begins setting port e (Asks done k) (Post a b) frame numbered found may = absurd may
-receive_begins setting port e (Seeks done k) (Take b) frame numbered found may = absurd may
-receive_begins setting port e (Seeks done k) (Give b outcome parcel) frame numbered found may = absurd may
-receive_begins setting port e (Seeks done k) (Push r i) frame numbered found may = absurd may
-receive_begins setting port e (Seeks done k) (Pop r i) frame numbered found may = absurd may
-receive_begins setting port e (Seeks done k) (Split a) frame numbered found may = absurd may
-receive_begins setting port e (Seeks done k) (Join a) frame numbered found may = absurd may
-receive_begins setting port e (Seeks done k) (Full r) frame numbered found may = absurd may
-receive_begins setting port e (Seeks done k) (Empty a) frame numbered found may = absurd may
-receive_begins setting port e (Seeks done k) (Look w v None) frame numbered found may = inl (sought_begun done k v, refl)
-receive_begins setting port e (Seeks done k) (Look w v (Some told)) frame numbered found may = inr (refl, told_begins frame setting port done e told numbered found (ap (λ (r : Record). r.frame) may.1.told_is))
-receive_begins setting port e (Seeks done k) (Post a b) frame numbered found may = absurd may
-receive_begins setting port e (Sees done index seen) (Take b) frame numbered found may = inr (refl, refl)
-receive_begins setting port e (Sees done index seen) (Give b outcome parcel) frame numbered found may = absurd may
-receive_begins setting port e (Sees done index seen) (Push r i) frame numbered found may = absurd may
-receive_begins setting port e (Sees done index seen) (Pop r i) frame numbered found may = absurd may
-receive_begins setting port e (Sees done index seen) (Split a) frame numbered found may = absurd may
-receive_begins setting port e (Sees done index seen) (Join a) frame numbered found may = absurd may
-receive_begins setting port e (Sees done index seen) (Full r) frame numbered found may = absurd may
-receive_begins setting port e (Sees done index seen) (Empty a) frame numbered found may = absurd may
-receive_begins setting port e (Sees done index seen) (Look w v None) frame numbered found may = absurd may
-receive_begins setting port e (Sees done index seen) (Look w v (Some told)) frame numbered found may = absurd may
-receive_begins setting port e (Sees done index seen) (Post a b) frame numbered found may = absurd may
-receive_begins setting port e (Took done buf) (Take b) frame numbered found may = absurd may
-receive_begins setting port e (Took done buf) (Give b outcome parcel) frame numbered found may = inl (refl, refl)
-receive_begins setting port e (Took done buf) (Push r i) frame numbered found may = inl (refl, refl)
-receive_begins setting port e (Took done buf) (Pop r i) frame numbered found may = absurd may
-receive_begins setting port e (Took done buf) (Split a) frame numbered found may = absurd may
-receive_begins setting port e (Took done buf) (Join a) frame numbered found may = absurd may
-receive_begins setting port e (Took done buf) (Full r) frame numbered found may = inl (refl, refl)
-receive_begins setting port e (Took done buf) (Empty a) frame numbered found may = absurd may
-receive_begins setting port e (Took done buf) (Look w v None) frame numbered found may = absurd may
-receive_begins setting port e (Took done buf) (Look w v (Some told)) frame numbered found may = absurd may
-receive_begins setting port e (Took done buf) (Post a b) frame numbered found may = absurd may
-receive_begins setting port e (Barred done buf ring) (Take b) frame numbered found may = absurd may
-receive_begins setting port e (Barred done buf ring) (Give b outcome parcel) frame numbered found may = inl (refl, refl)
-receive_begins setting port e (Barred done buf ring) (Push r i) frame numbered found may = absurd may
-receive_begins setting port e (Barred done buf ring) (Pop r i) frame numbered found may = absurd may
-receive_begins setting port e (Barred done buf ring) (Split a) frame numbered found may = absurd may
-receive_begins setting port e (Barred done buf ring) (Join a) frame numbered found may = absurd may
-receive_begins setting port e (Barred done buf ring) (Full r) frame numbered found may = absurd may
-receive_begins setting port e (Barred done buf ring) (Empty a) frame numbered found may = absurd may
-receive_begins setting port e (Barred done buf ring) (Look w v None) frame numbered found may = absurd may
-receive_begins setting port e (Barred done buf ring) (Look w v (Some told)) frame numbered found may = absurd may
-receive_begins setting port e (Barred done buf ring) (Post a b) frame numbered found may = absurd may
-
-mark_starts : (setting : Setting) (feeder : ℕ) (act : Act) (fresh frame : FrameId) → IsMark setting feeder act → starts fresh frame act ≡ 0
-mark_starts setting feeder (Look (Cell (Lane f p) at) v None) fresh frame may = refl
-mark_starts setting feeder (Look (Cell (Lane f p) at) v (Some told)) fresh frame may = absurd (let off : Some told ≡ None = may.3 in cc)
-mark_starts setting feeder (Look (Cell (Output f) at) v told) fresh frame may = absurd may
-mark_starts setting feeder (Look (Cell (Mail f) at) v told) fresh frame may = absurd may
-mark_starts setting feeder (Look (PostWord f) v told) fresh frame may = absurd may
-mark_starts setting feeder (Look (PoolWord f g) v told) fresh frame may = absurd may
-mark_starts setting feeder (Look (Weight f) v told) fresh frame may = absurd may
-mark_starts setting feeder (Take b) fresh frame may = absurd may
-mark_starts setting feeder (Give b outcome parcel) fresh frame may = refl
-mark_starts setting feeder (Push r i) fresh frame may = refl
-mark_starts setting feeder (Pop r i) fresh frame may = refl
-mark_starts setting feeder (Split a) fresh frame may = refl
-mark_starts setting feeder (Join a) fresh frame may = refl
-mark_starts setting feeder (Full r) fresh frame may = refl
-mark_starts setting feeder (Empty a) fresh frame may = refl
-mark_starts setting feeder (Post a b) fresh frame may = refl
-
-mark_begins : (setting : Setting) (port : ℕ) (phase : ReceivePhase) (act : Act) → IsBetween phase → IsMark setting port act → begun_in (receive_after setting phase act) ≡ begun_in phase
-mark_begins setting port (Between done) (Look (Cell a b) v told) between may = refl
-mark_begins setting port (Between done) (Look (PostWord f) v told) between may = absurd may
-mark_begins setting port (Between done) (Look (PoolWord f g) v told) between may = refl
-mark_begins setting port (Between done) (Look (Weight f) v told) between may = refl
-mark_begins setting port (Between done) (Take b) between may = refl
-mark_begins setting port (Between done) (Give b outcome parcel) between may = refl
-mark_begins setting port (Between done) (Push r i) between may = refl
-mark_begins setting port (Between done) (Pop r i) between may = refl
-mark_begins setting port (Between done) (Split a) between may = refl
-mark_begins setting port (Between done) (Join a) between may = refl
-mark_begins setting port (Between done) (Full r) between may = refl
-mark_begins setting port (Between done) (Empty a) between may = refl
-mark_begins setting port (Between done) (Post a b) between may = refl
-mark_begins setting port (Asks done k) act between may = absurd between
-mark_begins setting port (Seeks done k) act between may = absurd between
-mark_begins setting port (Sees done index seen) act between may = absurd between
-mark_begins setting port (Took done buf) act between may = absurd between
-mark_begins setting port (Barred done buf ring) act between may = absurd between
-
-pub own_begins : (setting : Setting) (port : ℕ) (log : Log) (act : Act) (frame : FrameId) → IsNumbered setting → MayReceive setting port log act → Begins frame port (begun_in (receive_phase setting log)) (begun_in (receive_phase setting (act ∷ log))) (starts (block_frame setting port log) frame act)
-own_begins setting port log act frame numbered may =
-    elim may [
-      | inl mark ↦ inl (mark_begins setting port (receive_phase setting log) act mark.0 mark.1, mark_starts setting port act (block_frame setting port log) frame mark.1)
-      | inr block ↦ receive_begins setting port block.0 (receive_phase setting log) act frame numbered block.1 block.2
-    ]
-
-send_starts : (setting : Setting) (feeder : ℕ) (phase : SendPhase) (act : Act) (fresh frame : FrameId) → MaySend setting feeder phase act → starts fresh frame act ≡ 0
-send_starts setting feeder Free (Take b) fresh frame may = absurd may
-send_starts setting feeder Free (Give b outcome parcel) fresh frame may = refl
-send_starts setting feeder Free (Push r i) fresh frame may = refl
-send_starts setting feeder Free (Pop r i) fresh frame may = refl
-send_starts setting feeder Free (Split a) fresh frame may = refl
-send_starts setting feeder Free (Join a) fresh frame may = refl
-send_starts setting feeder Free (Full r) fresh frame may = refl
-send_starts setting feeder Free (Empty a) fresh frame may = refl
-send_starts setting feeder Free (Look w v None) fresh frame may = refl
-send_starts setting feeder Free (Look w v (Some told)) fresh frame may = mark_starts setting feeder (Look w v (Some told)) fresh frame may
-send_starts setting feeder Free (Post a b) fresh frame may = refl
-send_starts setting feeder (Sending hand) (Take b) fresh frame may = absurd may
-send_starts setting feeder (Sending hand) (Give b outcome parcel) fresh frame may = refl
-send_starts setting feeder (Sending hand) (Push r i) fresh frame may = refl
-send_starts setting feeder (Sending hand) (Pop r i) fresh frame may = refl
-send_starts setting feeder (Sending hand) (Split a) fresh frame may = refl
-send_starts setting feeder (Sending hand) (Join a) fresh frame may = refl
-send_starts setting feeder (Sending hand) (Full r) fresh frame may = refl
-send_starts setting feeder (Sending hand) (Empty a) fresh frame may = refl
-send_starts setting feeder (Sending hand) (Look w v None) fresh frame may = refl
-send_starts setting feeder (Sending hand) (Look w v (Some told)) fresh frame may = absurd may
-send_starts setting feeder (Sending hand) (Post a b) fresh frame may = refl
-send_starts setting feeder (TurnsBack hand ring) (Take b) fresh frame may = absurd may
-send_starts setting feeder (TurnsBack hand ring) (Give b outcome parcel) fresh frame may = refl
-send_starts setting feeder (TurnsBack hand ring) (Push r i) fresh frame may = refl
-send_starts setting feeder (TurnsBack hand ring) (Pop r i) fresh frame may = refl
-send_starts setting feeder (TurnsBack hand ring) (Split a) fresh frame may = refl
-send_starts setting feeder (TurnsBack hand ring) (Join a) fresh frame may = refl
-send_starts setting feeder (TurnsBack hand ring) (Full r) fresh frame may = refl
-send_starts setting feeder (TurnsBack hand ring) (Empty a) fresh frame may = refl
-send_starts setting feeder (TurnsBack hand ring) (Look w v None) fresh frame may = refl
-send_starts setting feeder (TurnsBack hand ring) (Look w v (Some told)) fresh frame may = absurd may
-send_starts setting feeder (TurnsBack hand ring) (Post a b) fresh frame may = refl
-
--- no other kind of role begins a frame
-pub other_starts : (setting : Setting) (role : ℕ) (kind : Kind) (log : Log) (act : Act) (fresh frame : FrameId) → (kind ≡ Receives → ⊥) → MayFollow setting role kind log act → starts fresh frame act ≡ 0
-other_starts setting role Receives log act fresh frame other may = absurd (other refl)
-other_starts setting role Sends log act fresh frame other may = send_starts setting role (send_phase log) act fresh frame may
-other_starts setting role Handles log (Take b) fresh frame other may = absurd may
-other_starts setting role Handles log (Give b outcome parcel) fresh frame other may = refl
-other_starts setting role Handles log (Push r i) fresh frame other may = refl
-other_starts setting role Handles log (Pop r i) fresh frame other may = refl
-other_starts setting role Handles log (Split a) fresh frame other may = refl
-other_starts setting role Handles log (Join a) fresh frame other may = refl
-other_starts setting role Handles log (Full r) fresh frame other may = refl
-other_starts setting role Handles log (Empty a) fresh frame other may = refl
-other_starts setting role Handles log (Look w v None) fresh frame other may = refl
-other_starts setting role Handles log (Look w v (Some told)) fresh frame other may = absurd (let off : Some told ≡ None = may.1 in cc)
-other_starts setting role Handles log (Post a b) fresh frame other may = refl
-other_starts setting role Ticks log (Take b) fresh frame other may = absurd may
-other_starts setting role Ticks log (Give b outcome parcel) fresh frame other may = refl
-other_starts setting role Ticks log (Push r i) fresh frame other may = refl
-other_starts setting role Ticks log (Pop r i) fresh frame other may = refl
-other_starts setting role Ticks log (Split a) fresh frame other may = refl
-other_starts setting role Ticks log (Join a) fresh frame other may = refl
-other_starts setting role Ticks log (Full r) fresh frame other may = refl
-other_starts setting role Ticks log (Empty a) fresh frame other may = refl
-other_starts setting role Ticks log (Look w v None) fresh frame other may = refl
-other_starts setting role Ticks log (Look w v (Some told)) fresh frame other may = absurd may
-other_starts setting role Ticks log (Post a b) fresh frame other may = refl
-other_starts setting role Leads log (Take b) fresh frame other may = absurd may
-other_starts setting role Leads log (Give b outcome parcel) fresh frame other may = refl
-other_starts setting role Leads log (Push r i) fresh frame other may = refl
-other_starts setting role Leads log (Pop r i) fresh frame other may = refl
-other_starts setting role Leads log (Split a) fresh frame other may = refl
-other_starts setting role Leads log (Join a) fresh frame other may = refl
-other_starts setting role Leads log (Full r) fresh frame other may = refl
-other_starts setting role Leads log (Empty a) fresh frame other may = refl
-other_starts setting role Leads log (Look w v None) fresh frame other may = refl
-other_starts setting role Leads log (Look w v (Some told)) fresh frame other may = absurd (let off : Some told ≡ None = may in cc)
-other_starts setting role Leads log (Post a b) fresh frame other may = refl
-
-begun_more : (number b : ℕ) → one_if (nat_lt 0 number && nat_le number (b + 1)) ≡ one_if (nat_lt 0 number && nat_le number b) + one_if (b + 1 == number)
+begun_more : (number b : ℕ)
+    → one_if (nat_lt 0 number && nat_le number (b + 1))
+    ≡ one_if (nat_lt 0 number && nat_le number b) + one_if (b + 1 == number)
 begun_more number b =
     elim (cases_order number (b + 1)) [
-      | inl e ↦ rw (e, lt-ltb 0 (b + 1) (omega arith), le-leb (b + 1) (b + 1) (omega arith), lt-leb (b + 1) b (omega arith), eq-eqb (b + 1) (b + 1) refl) refl
-      | inr (inl less) ↦ rw (le-leb number (b + 1) (omega arith), le-leb number b (omega arith), ne_eqb (b + 1) number (λ e. omega arith)) (sym (add-zero (one_if (nat_lt 0 number && true))))
-      | inr (inr more) ↦ rw (lt-leb number (b + 1) more, lt-leb number b (omega arith), ne_eqb (b + 1) number (λ e. omega arith)) (sym (add-zero (one_if (nat_lt 0 number && false))))
+      | inl e ↦
+          rw (
+            e,
+            lt-ltb 0 (b + 1) (omega arith),
+            le-leb (b + 1) (b + 1) (omega arith),
+            lt-leb (b + 1) b (omega arith),
+            eq-eqb (b + 1) (b + 1) refl,
+          ) refl
+      | inr (inl less) ↦
+          rw
+          (le-leb number (b + 1) (omega arith), le-leb number b (omega arith), ne_eqb (b + 1) number (λ e. omega arith))
+          (sym (add-zero (one_if (nat_lt 0 number && true))))
+      | inr (inr more) ↦
+          rw (lt-leb number (b + 1) more, lt-leb number b (omega arith), ne_eqb (b + 1) number (λ e. omega arith))
+          (sym (add-zero (one_if (nat_lt 0 number && false))))
     ]
 
-pub kind_receives : (layout : Layout) (role : ℕ) → nat_lt role layout.ports ≡ true → kind_of layout role ≡ Receives
-kind_receives layout role e = rw e refl
-
-pub kind_other : (layout : Layout) (role : ℕ) → nat_lt role layout.ports ≡ false → kind_of layout role ≡ Receives → ⊥
-kind_other layout role e =
-    elim (cases_Bool (nat_lt role (layout.ports + layout.transmit))) [
-      | inl met ↦ rw (e, met) (λ off. let two : Sends ≡ Receives = off in cc)
-      | inr unmet ↦ elim (cases_Bool (nat_lt role (layout.ports + layout.transmit + layout.cores))) [
-        | inl met ↦ rw (e, unmet, met) (λ off. let two : Handles ≡ Receives = off in cc)
-        | inr again ↦ elim (cases_Bool (role == layout.ports + layout.transmit + layout.cores)) [
-          | inl met ↦ rw (e, unmet, again, met) (λ off. let two : Ticks ≡ Receives = off in cc)
-          | inr last ↦ rw (e, unmet, again, last) (λ off. let two : Leads ≡ Receives = off in cc)
-        ]
-      ]
-    ]
-
-same_frame_port : (role number : ℕ) (frame : FrameId) → (role == frame.port.0) ≡ false → one_if (same_frame (record { port = record { 0 = role }; number = number }) frame) ≡ 0
+same_frame_port : (role number : ℕ) (frame : FrameId) → (role == frame.port.0) ≡ false
+    → one_if (same_frame (record { port = record { 0 = role }; number = number }) frame) ≡ 0
 same_frame_port role number frame e = rw e refl
 
 -- a step of a role begins no frame of another port
-foreign_starts : (setting : Setting) (role : ℕ) (log : Log) (act : Act) (frame : FrameId) → IsNumbered setting → IsOfBlocks setting role (act ∷ log) → (role == frame.port.0) ≡ false → starts (block_frame setting role log) frame act ≡ 0
+foreign_starts : (setting : Setting) (role : ℕ) (log : Log) (act : Act) (frame : FrameId)
+    → IsNumbered setting → IsOfBlocks setting role (act ∷ log) → (role == frame.port.0) ≡ false
+    → starts (block_frame setting role log) frame act ≡ 0
 foreign_starts setting role log act frame numbered own foreign =
     elim (cases_Bool (nat_lt role setting.layout.ports)) [
-      | inl met ↦ let may : MayReceive setting role log act = subst (λ k. MayFollow setting role k log act) (kind_receives setting.layout role met) own.0 in
+      | inl met ↦
+          let may : MayReceive setting role log act =
+          subst (λ k. MayFollow setting role k log act) (kind_receives setting.layout role met) own.0 in
           elim (own_begins setting role log act frame numbered may) [
             | inl none ↦ none.1
             | inr one ↦ one.1 ∙ same_frame_port role (begun_in (receive_phase setting log) + 1) frame foreign
           ]
-      | inr unmet ↦ other_starts setting role (kind_of setting.layout role) log act (block_frame setting role log) frame (kind_other setting.layout role unmet) own.0
+      | inr unmet ↦
+          other_starts setting role (kind_of setting.layout role) log act (block_frame setting role log) frame
+          (kind_other setting.layout role unmet) own.0
     ]
 
-begun_own : (setting : Setting) (log : Log) (act : Act) (frame : FrameId) (port : ℕ) → IsNumbered setting → (port == frame.port.0) ≡ true → MayReceive setting port log act → one_if (nat_lt 0 frame.number && nat_le frame.number (begun_in (receive_phase setting (act ∷ log)))) ≡ one_if (nat_lt 0 frame.number && nat_le frame.number (begun_in (receive_phase setting log))) + starts (block_frame setting port log) frame act
+begun_own : (setting : Setting) (log : Log) (act : Act) (frame : FrameId) (port : ℕ)
+    → IsNumbered setting → (port == frame.port.0) ≡ true → MayReceive setting port log act
+    → one_if (nat_lt 0 frame.number && nat_le frame.number (begun_in (receive_phase setting (act ∷ log))))
+    ≡ one_if (nat_lt 0 frame.number && nat_le frame.number (begun_in (receive_phase setting log)))
+    + starts (block_frame setting port log) frame act
 begun_own setting log act frame port numbered same may =
     elim (own_begins setting port log act frame numbered may) [
       | inl none ↦ omega (arith, none.1, ap (λ (n : ℕ). one_if (nat_lt 0 frame.number && nat_le frame.number n)) none.0)
-      | inr one ↦ let started : starts (block_frame setting port log) frame act ≡ one_if (begun_in (receive_phase setting log) + 1 == frame.number) = one.1 ∙ rw same refl in
-          omega (arith, started, ap (λ (n : ℕ). one_if (nat_lt 0 frame.number && nat_le frame.number n)) one.0, begun_more frame.number (begun_in (receive_phase setting log)))
+      | inr one ↦
+          let started : starts (block_frame setting port log) frame act
+          ≡ one_if (begun_in (receive_phase setting log) + 1 == frame.number)
+          = one.1 ∙ rw same refl in
+          omega (
+            arith,
+            started,
+            ap (λ (n : ℕ). one_if (nat_lt 0 frame.number && nat_le frame.number n)) one.0,
+            begun_more frame.number (begun_in (receive_phase setting log)),
+          )
     ]
 
-begun_step : (setting : Setting) (frame : FrameId) (step : Step) (before : History) → IsNumbered setting → AllOfBlocks setting (step ∷ before) → one_if (has_begun setting frame (step ∷ before)) ≡ one_if (has_begun setting frame before) + starts (block_frame setting step.role (log_of step.role before)) frame step.act
+begun_step : (setting : Setting) (frame : FrameId) (step : Step) (before : History)
+    → IsNumbered setting → AllOfBlocks setting (step ∷ before)
+    → one_if (has_begun setting frame (step ∷ before))
+    ≡ one_if (has_begun setting frame before)
+    + starts (block_frame setting step.role (log_of step.role before)) frame step.act
 begun_step setting frame step before numbered blocks =
-    let own : IsOfBlocks setting step.role (step.act ∷ log_of step.role before) = own_blocks setting step before blocks in
+    let own : IsOfBlocks setting step.role (step.act ∷ log_of step.role before) =
+    own_blocks setting step before blocks in
     elim (cases_Bool (step.role == frame.port.0)) [
       | inl mine ↦ let same : step.role ≡ frame.port.0 = eqb-true step.role frame.port.0 mine in
           elim (cases_Bool (nat_lt frame.port.0 setting.layout.ports)) [
             | inl known ↦ let known_role : nat_lt step.role setting.layout.ports ≡ true = rw same known in
-                let may : MayReceive setting step.role (log_of step.role before) step.act = subst (λ k. MayFollow setting step.role k (log_of step.role before) step.act) (kind_receives setting.layout step.role known_role) own.0 in
-                let sum : one_if (nat_lt 0 frame.number && nat_le frame.number (begun_in (receive_phase setting (step.act ∷ log_of step.role before)))) ≡ one_if (nat_lt 0 frame.number && nat_le frame.number (begun_in (receive_phase setting (log_of step.role before)))) + starts (block_frame setting step.role (log_of step.role before)) frame step.act
+                let may : MayReceive setting step.role (log_of step.role before) step.act =
+                subst (λ k. MayFollow setting step.role k (log_of step.role before) step.act)
+                (kind_receives setting.layout step.role known_role) own.0 in
+                let sum : one_if (nat_lt 0 frame.number && nat_le frame.number
+                (begun_in (receive_phase setting (step.act ∷ log_of step.role before))))
+                ≡ one_if (nat_lt 0 frame.number && nat_le frame.number
+                (begun_in (receive_phase setting (log_of step.role before))))
+                + starts (block_frame setting step.role (log_of step.role before)) frame step.act
                 = begun_own setting (log_of step.role before) step.act frame step.role numbered mine may in
-                let log_now : log_of frame.port.0 (step ∷ before) ≡ step.act ∷ log_of step.role before = rw mine (ap (λ (n : ℕ). step.act ∷ log_of n before) (sym same)) in
-                let now : one_if (has_begun setting frame (step ∷ before)) ≡ one_if (nat_lt 0 frame.number && nat_le frame.number (begun_in (receive_phase setting (step.act ∷ log_of step.role before)))) = rw known (ap (λ (l : Log). one_if (nat_lt 0 frame.number && nat_le frame.number (begun_in (receive_phase setting l)))) log_now) in
-                let was : one_if (has_begun setting frame before) ≡ one_if (nat_lt 0 frame.number && nat_le frame.number (begun_in (receive_phase setting (log_of step.role before)))) = rw (known, ← same) refl in
-                now ∙ sum ∙ ap (λ (n : ℕ). n + starts (block_frame setting step.role (log_of step.role before)) frame step.act) (sym was)
+                let log_now : log_of frame.port.0 (step ∷ before) ≡ step.act ∷ log_of step.role before =
+                rw mine (ap (λ (n : ℕ). step.act ∷ log_of n before) (sym same)) in
+                let now : one_if (has_begun setting frame (step ∷ before))
+                ≡ one_if (nat_lt 0 frame.number && nat_le frame.number
+                (begun_in (receive_phase setting (step.act ∷ log_of step.role before))))
+                = rw known (ap (λ (l : Log).
+                one_if (nat_lt 0 frame.number && nat_le frame.number (begun_in (receive_phase setting l)))) log_now) in
+                let was : one_if (has_begun setting frame before)
+                ≡ one_if (nat_lt 0 frame.number && nat_le frame.number
+                (begun_in (receive_phase setting (log_of step.role before))))
+                = rw (known, ← same) refl in
+                now
+                ∙ sum
+                ∙ ap (λ (n : ℕ). n + starts (block_frame setting step.role (log_of step.role before)) frame step.act)
+                (sym was)
             | inr unknown ↦ let unknown_role : nat_lt step.role setting.layout.ports ≡ false = rw same unknown in
-                let none : starts (block_frame setting step.role (log_of step.role before)) frame step.act ≡ 0 = other_starts setting step.role (kind_of setting.layout step.role) (log_of step.role before) step.act (block_frame setting step.role (log_of step.role before)) frame (kind_other setting.layout step.role unknown_role) own.0 in
+                let none : starts (block_frame setting step.role (log_of step.role before)) frame step.act ≡ 0 =
+                other_starts setting step.role (kind_of setting.layout step.role) (log_of step.role before) step.act
+                (block_frame setting step.role (log_of step.role before)) frame
+                (kind_other setting.layout step.role unknown_role) own.0 in
                 rw (unknown, none) refl
           ]
-      | inr foreign ↦ let none : starts (block_frame setting step.role (log_of step.role before)) frame step.act ≡ 0 = foreign_starts setting step.role (log_of step.role before) step.act frame numbered own foreign in
+      | inr foreign ↦
+          let none : starts (block_frame setting step.role (log_of step.role before)) frame step.act ≡ 0 =
+          foreign_starts setting step.role (log_of step.role before) step.act frame numbered own foreign in
           rw (foreign, none) (sym (add-zero (one_if (has_begun setting frame before))))
     ]
 
@@ -444,29 +316,49 @@ none_begun number = elim (cases_order number 0) [
 ]
 
 -- a frame that has begun has one record or is in one buffer, and no other frame has or is
-pub one_record_or_buffer : (setting : Setting) (frame : FrameId) (past : History) → IsNumbered setting → IsLawful setting.layout past → AllOfBlocks setting past → records_of frame past + buffers_with setting frame past ≡ one_if (has_begun setting frame past)
+pub one_record_or_buffer : (setting : Setting) (frame : FrameId) (past : History)
+    → IsNumbered setting → IsLawful setting.layout past → AllOfBlocks setting past
+    → records_of frame past + buffers_with setting frame past ≡ one_if (has_begun setting frame past)
 one_record_or_buffer setting frame [] numbered lawful blocks =
     elim (cases_Bool (nat_lt frame.port.0 setting.layout.ports)) [
-      | inl known ↦ rw (known, none_begun frame.number, none_counted (setting.layout.ports * setting.layout.buffers)) refl
+      | inl known ↦
+          rw (known, none_begun frame.number, none_counted (setting.layout.ports * setting.layout.buffers)) refl
       | inr unknown ↦ rw (unknown, none_counted (setting.layout.ports * setting.layout.buffers)) refl
     ]
 one_record_or_buffer setting frame (step ∷ before) numbered lawful blocks =
-    let earlier : records_of frame before + buffers_with setting frame before ≡ one_if (has_begun setting frame before) = one_record_or_buffer setting frame before numbered lawful.1 (blocks_before setting step before blocks) in
-    omega (arith, earlier, total_step setting frame step before numbered lawful blocks, begun_step setting frame step before numbered blocks)
-
-pub within_of : {A : Type 0} (xs : List A) (k : ℕ) (x : A) → slice_get xs k ≡ Some x → k < length xs
-within_of [] k x e = absurd (cc)
-within_of (y ∷ ys) zero x e = omega arith
-within_of (y ∷ ys) (suc k) x e = omega (arith, within_of ys k x e)
+    let earlier : records_of frame before + buffers_with setting frame before ≡ one_if (has_begun setting frame before)
+    = one_record_or_buffer setting frame before numbered lawful.1 (blocks_before setting step before blocks) in
+    omega (
+      arith,
+      earlier,
+      total_step setting frame step before numbered lawful blocks,
+      begun_step setting frame step before numbered blocks,
+    )
 
 -- where every block has ended and all buffers are back, each frame has one record
-pub one_record : (setting : Setting) (past : History) → IsNumbered setting → IsLawful setting.layout past → AllOfBlocks setting past → AllEnded setting past → AllInPool setting past → (port number : ℕ) (e : Entry) → port < setting.layout.ports → frame_after setting port number ≡ Some e → records_of e.frame past ≡ 1
+pub one_record : (setting : Setting) (past : History)
+    → IsNumbered setting → IsLawful setting.layout past → AllOfBlocks setting past → AllEnded setting past
+    → AllInPool setting past → (port number : ℕ) (e : Entry) → port < setting.layout.ports
+    → frame_after setting port number ≡ Some e
+    → records_of e.frame past ≡ 1
 one_record setting past numbered lawful blocks ended pooled port number e known found =
     let frame : FrameId = record { port = record { 0 = port }; number = number + 1 } in
     let named : e.frame ≡ frame = numbered port number e found in
-    let total : records_of frame past + buffers_with setting frame past ≡ one_if (has_begun setting frame past) = one_record_or_buffer setting frame past numbered lawful blocks in
-    let none : buffers_with setting frame past ≡ 0 = same_counts (λ buf. has_frame frame (load setting buf past)) (λ (buf : ℕ). false) (setting.layout.ports * setting.layout.buffers) (λ buf. ap (has_frame frame) (pool_load setting past buf (pooled buf))) ∙ none_counted (setting.layout.ports * setting.layout.buffers) in
-    let within : number < length (of_port port setting.entries) = within_of (of_port port setting.entries) number e found in
-    let begun : has_begun setting frame past ≡ true = rw (lt-ltb port setting.layout.ports known, ended port known, lt-ltb 0 (number + 1) (omega arith), le-leb (number + 1) (length (of_port port setting.entries)) (omega arith)) refl in
+    let total : records_of frame past + buffers_with setting frame past ≡ one_if (has_begun setting frame past) =
+    one_record_or_buffer setting frame past numbered lawful blocks in
+    let none : buffers_with setting frame past ≡ 0 =
+    same_counts (λ buf. has_frame frame (load setting buf past)) (λ (buf : ℕ). false)
+    (setting.layout.ports * setting.layout.buffers)
+    (λ buf. ap (has_frame frame) (pool_load setting past buf (pooled buf)))
+    ∙ none_counted (setting.layout.ports * setting.layout.buffers) in
+    let within : number < length (of_port port setting.entries) =
+    slice_get_within (of_port port setting.entries) number e found in
+    let begun : has_begun setting frame past ≡ true =
+    rw (
+      lt-ltb port setting.layout.ports known,
+      ended port known,
+      lt-ltb 0 (number + 1) (omega arith),
+      le-leb (number + 1) (length (of_port port setting.entries)) (omega arith),
+    ) refl in
     let one : records_of frame past ≡ 1 = omega (arith, total, none, ap one_if begun) in
     ap (λ (f : FrameId). records_of f past) named ∙ one

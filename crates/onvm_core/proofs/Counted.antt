@@ -4,7 +4,6 @@ use Rattle.std.specs.Prelude.{if◌then◌else◌, ◌==◌, nat_lt, slice_index
 use Rattle.std.proofs.lemmas.Bool.{cases_Bool, eq-eqb, eqb-true, lt-ltb, le-ltb}
 use Rattle.std.proofs.lemmas.List.{append-nil}
 use Rattle.onvm_base.specs.declared.ids.FnId.{FnId}
-use Rattle.onvm_base.specs.declared.ids.BufId.{BufId}
 use Rattle.onvm_base.specs.declared.ids.RingId.TheVariants.{Lane, Output, Mail}
 use Rattle.onvm_core.specs.declared.parcel.Parcel.{Parcel}
 use Rattle.onvm_core.specs.declared.step.Item.TheVariants.{Buffer, Number}
@@ -13,13 +12,15 @@ use Rattle.onvm_core.specs.declared.step.Act.TheVariants.{Split, Join, Take, Giv
 use Rattle.onvm_core.specs.History.{History}
 use Rattle.onvm_core.specs.declared.layout.Layout.{Layout}
 use Rattle.onvm_core.specs.Layouts.{IsLayout, core_role}
-use Rattle.onvm_core.specs.Logs.{Setting, Log, log_of, Hand}
+use Rattle.onvm_core.specs.Logs.{Setting, Log, log_of, Hand, push_count}
 use Rattle.onvm_core.specs.Handling.{core_hand, handles, MayHandle}
 use Rattle.onvm_core.specs.Blocks.{kind_of, IsOfBlocks}
 use Rattle.onvm_core.specs.Blocks.Kind.{Handles}
-use Rattle.onvm_core.specs.Journals.{journal, journal_of, handlings, last_popped}
+use Rattle.onvm_core.specs.Journals.{journal, journal_of, handlings, last_popped, popped_or}
 use Rattle.onvm_core.specs.Samples.{count_in, is_sampled, sampled_after, since_after, handled_since, mailed_count, lost_count, MaySample, AreSamples}
 use Rattle.onvm_core.proofs.Hands.{IsKind, is_kind}
+use Rattle.onvm_core.proofs.Lists.{if_met, if_unmet}
+use Rattle.onvm_core.specs.declared.step.Item.{Item}
 
 -- Journals
 
@@ -44,9 +45,12 @@ popped_still buf (Post a b) before h = h
 some_hand : (a b : Hand) → Some a ≡ Some b → a ≡ b
 some_hand a b e = cc
 
-hand_step : (act : Act) (before : Log) (hand : Hand) → handles act (core_hand before) ≡ Some hand → (core_hand before ≡ Some hand → WasPopped hand.buf before) → WasPopped hand.buf (act ∷ before)
+hand_step : (act : Act) (before : Log) (hand : Hand)
+    → handles act (core_hand before) ≡ Some hand → (core_hand before ≡ Some hand → WasPopped hand.buf before)
+    → WasPopped hand.buf (act ∷ before)
 hand_step (Pop (Lane f p) (Buffer b parcel)) before hand e earlier =
-    let same : record { function = f; buf = b.0; parcel = parcel } ≡ hand = some_hand (record { function = f; buf = b.0; parcel = parcel }) hand e in
+    let same : record { function = f; buf = b.0; parcel = parcel } ≡ hand =
+    some_hand (record { function = f; buf = b.0; parcel = parcel }) hand e in
     (parcel, rw (eq-eqb b.0 hand.buf (ap (λ (h : Hand). h.buf) same)) refl)
 hand_step (Pop (Lane f p) (Number n)) before hand e earlier = earlier e
 hand_step (Pop (Output f) i) before hand e earlier = popped_still hand.buf (Pop (Output f) i) before (earlier e)
@@ -68,61 +72,164 @@ hand_popped : (log : Log) (hand : Hand) → core_hand log ≡ Some hand → WasP
 hand_popped [] hand e = absurd (let off : None ≡ Some hand = e in cc)
 hand_popped (act ∷ before) hand e = hand_step act before hand e (hand_popped before hand)
 
-one_handling : (f g : FnId) (setting : Setting) (role : ℕ) (before : Log) (b : BufId) (parcel : Parcel) → MayHandle setting role before (Push (Output g) (Buffer b parcel)) → length (handlings f (Push (Output g) (Buffer b parcel)) before) ≡ (if g.0 == f.0 then 1 else 0)
-one_handling f g setting role before b parcel may =
-    let was : WasPopped b.0 before = subst (λ (n : ℕ). WasPopped n before) may.same (hand_popped before may.hand may.held) in
+-- a push on the output ring adds an entry to the function's journal
+one_handling : (f g : FnId) (setting : Setting) (role : ℕ) (before : Log) (item : Item)
+    → MayHandle setting role before (Push (Output g) item)
+    → length (handlings f (Push (Output g) item) before) ≡ (if g.0 == f.0 then 1 else 0)
+one_handling f g setting role before (Number n) may = absurd may
+one_handling f g setting role before (Buffer b parcel) may =
+    let was : WasPopped b.0 before =
+    subst (λ (n : ℕ). WasPopped n before) may.same (hand_popped before may.hand may.held) in
     let found : last_popped b.0 before ≡ Some was.0 = was.1 in
     elim (cases_Bool (g.0 == f.0)) [ inl met ↦ rw (met, found) refl | inr unmet ↦ rw unmet refl ]
 
-chosen : (b : Bool) (x y : ℕ) → b ≡ true → (if b then x else y) ≡ x
-chosen b x y e = rw e refl
+-- a core pops nothing while it has a parcel in hand
+kept_hand : (setting : Setting) (role : ℕ) (before : Log) (act : Act) (buf : ℕ) (hand : Hand)
+    → MayHandle setting role before act → handles act (core_hand before) ≡ Some hand → hand.buf ≡ buf
+    → (core_hand before ≡ Some hand → last_popped buf before ≡ Some hand.parcel)
+    → popped_or buf act (last_popped buf before) ≡ Some hand.parcel
+kept_hand setting role before (Pop (Lane f p) (Buffer b parcel)) buf hand may e of earlier =
+    let same : record { function = f; buf = b.0; parcel = parcel } ≡ hand =
+    some_hand (record { function = f; buf = b.0; parcel = parcel }) hand e in
+    rw (eq-eqb b.0 buf (ap (λ (h : Hand). h.buf) same ∙ of)) (ap (λ (h : Hand). Some h.parcel) same)
+kept_hand setting role before (Pop (Lane f p) (Number n)) buf hand may e of earlier = absurd may
+kept_hand setting role before (Pop (Output f) i) buf hand may e of earlier = absurd may
+kept_hand setting role before (Pop (Mail f) i) buf hand may e of earlier = absurd may
+kept_hand setting role before (Push (Output f) i) buf hand may e of earlier =
+    absurd (let off : None ≡ Some hand = e in cc)
+kept_hand setting role before (Push (Lane f p) i) buf hand may e of earlier = earlier e
+kept_hand setting role before (Push (Mail f) i) buf hand may e of earlier = earlier e
+kept_hand setting role before (Take b) buf hand may e of earlier = earlier e
+kept_hand setting role before (Give b outcome parcel) buf hand may e of earlier = earlier e
+kept_hand setting role before (Split a) buf hand may e of earlier = earlier e
+kept_hand setting role before (Join a) buf hand may e of earlier = earlier e
+kept_hand setting role before (Full r) buf hand may e of earlier = earlier e
+kept_hand setting role before (Empty a) buf hand may e of earlier = earlier e
+kept_hand setting role before (Look w v t) buf hand may e of earlier = earlier e
+kept_hand setting role before (Post a b) buf hand may e of earlier = earlier e
 
-other : (b : Bool) (x y : ℕ) → b ≡ false → (if b then x else y) ≡ y
-other b x y e = rw e refl
+-- the parcel in hand is the one with which its buffer was last popped
+pub popped_in_hand : (setting : Setting) (role : ℕ) (log : Log) (buf : ℕ) (hand : Hand)
+    → IsKind setting role Handles log → core_hand log ≡ Some hand → hand.buf ≡ buf
+    → last_popped buf log ≡ Some hand.parcel
+popped_in_hand setting role [] buf hand kind e of = absurd (let off : None ≡ Some hand = e in cc)
+popped_in_hand setting role (act ∷ before) buf hand kind e of =
+    kept_hand setting role before act buf hand kind.0 e of
+    (λ was. popped_in_hand setting role before buf hand kind.1 was of)
+
+journal_step : (f : FnId) (setting : Setting) (role : ℕ) (before : Log) (act : Act)
+    → IsKind setting role Handles before → MayHandle setting role before act
+    → length (journal f before) ≡ push_count (Output f) before
+    → length (journal f (act ∷ before)) ≡ push_count (Output f) (act ∷ before)
+journal_step f setting role before (Push (Output g) item) kind may e =
+    let more : length (handlings f (Push (Output g) item) before) ≡ (if g.0 == f.0 then 1 else 0) =
+    one_handling f g setting role before item may in
+    let all : length (journal f (Push (Output g) item ∷ before))
+    ≡ length (journal f before) + length (handlings f (Push (Output g) item) before)
+    = length-append (journal f before) (handlings f (Push (Output g) item) before) in
+    elim (cases_Bool (g.0 == f.0)) [
+      | inl met ↦
+          let one : length (handlings f (Push (Output g) item) before) ≡ 1 = more ∙ if_met (g.0 == f.0) 1 0 met in
+          let now : push_count (Output f) (Push (Output g) item ∷ before) ≡ push_count (Output f) before + 1 =
+          rw met refl in
+          omega (arith, all, one, e, now)
+      | inr unmet ↦
+          let none : length (handlings f (Push (Output g) item) before) ≡ 0 = more ∙ if_unmet (g.0 == f.0) 1 0 unmet in
+          let now : push_count (Output f) (Push (Output g) item ∷ before) ≡ push_count (Output f) before =
+          rw unmet refl in
+          omega (arith, all, none, e, now)
+    ]
+journal_step f setting role before (Take b) kind may e = ap length (append-nil (journal f before)) ∙ e
+journal_step f setting role before (Give b outcome parcel) kind may e = ap length (append-nil (journal f before)) ∙ e
+journal_step f setting role before (Push (Lane g p) i) kind may e = ap length (append-nil (journal f before)) ∙ e
+journal_step f setting role before (Push (Mail g) i) kind may e = ap length (append-nil (journal f before)) ∙ e
+journal_step f setting role before (Pop r i) kind may e = ap length (append-nil (journal f before)) ∙ e
+journal_step f setting role before (Split a) kind may e = ap length (append-nil (journal f before)) ∙ e
+journal_step f setting role before (Join a) kind may e = ap length (append-nil (journal f before)) ∙ e
+journal_step f setting role before (Full r) kind may e = ap length (append-nil (journal f before)) ∙ e
+journal_step f setting role before (Empty a) kind may e = ap length (append-nil (journal f before)) ∙ e
+journal_step f setting role before (Look w v t) kind may e = ap length (append-nil (journal f before)) ∙ e
+journal_step f setting role before (Post a b) kind may e = ap length (append-nil (journal f before)) ∙ e
+
+pub journal_length : (f : FnId) (setting : Setting) (role : ℕ) (log : Log) → IsKind setting role Handles log
+    → length (journal f log) ≡ push_count (Output f) log
+journal_length f setting role [] h = refl
+journal_length f setting role (act ∷ before) h =
+    journal_step f setting role before act h.1 h.0 (journal_length f setting role before h.1)
 
 -- Samples: what was mailed, what was lost, and what was handled since, are what was handled
 
 one_id : (g f : FnId) → (g.0 == f.0) ≡ true → g ≡ f
 one_id g f e = ap (λ (n : ℕ). record { 0 = n }) (eqb-true g.0 f.0 e)
 
-mails : (mailed lost since mailed_now lost_now since_now count : ℕ) → mailed_now ≡ count + mailed → lost_now ≡ lost → since_now ≡ 0 → count ≡ since → mailed_now + lost_now + since_now ≡ mailed + lost + since
+mails : (mailed lost since mailed_now lost_now since_now count : ℕ)
+    → mailed_now ≡ count + mailed → lost_now ≡ lost → since_now ≡ 0 → count ≡ since
+    → mailed_now + lost_now + since_now ≡ mailed + lost + since
 mails mailed lost since mailed_now lost_now since_now count a b c d = omega (arith, a, b, c, d)
 
-loses : (mailed lost since lost_now since_now : ℕ) → lost_now ≡ since + lost → since_now ≡ 0 → mailed + lost_now + since_now ≡ mailed + lost + since
+loses : (mailed lost since lost_now since_now : ℕ) → lost_now ≡ since + lost → since_now ≡ 0
+    → mailed + lost_now + since_now ≡ mailed + lost + since
 loses mailed lost since lost_now since_now a b = omega (arith, a, b)
 
 abbrev Total : FnId → Log → ℕ
 Total f log = mailed_count f log + lost_count f log + handled_since f log
 
-sum_step : (f : FnId) (setting : Setting) (role : ℕ) (act : Act) (before : Log) → MayHandle setting role before act → MaySample before act → Total f before ≡ length (journal f before) → Total f (act ∷ before) ≡ length (journal f (act ∷ before))
+sum_step : (f : FnId) (setting : Setting) (role : ℕ) (act : Act) (before : Log)
+    → MayHandle setting role before act → MaySample before act → Total f before ≡ length (journal f before)
+    → Total f (act ∷ before) ≡ length (journal f (act ∷ before))
 sum_step f setting role (Push (Output g) (Buffer b parcel)) before may samples e =
-    let more : length (handlings f (Push (Output g) (Buffer b parcel)) before) ≡ (if g.0 == f.0 then 1 else 0) = one_handling f g setting role before b parcel may in
-    let all : length (journal f (Push (Output g) (Buffer b parcel) ∷ before)) ≡ length (journal f before) + length (handlings f (Push (Output g) (Buffer b parcel)) before) = length-append (journal f before) (handlings f (Push (Output g) (Buffer b parcel)) before) in
+    let more : length (handlings f (Push (Output g) (Buffer b parcel)) before) ≡ (if g.0 == f.0 then 1 else 0) =
+    one_handling f g setting role before (Buffer b parcel) may in
+    let all : length (journal f (Push (Output g) (Buffer b parcel) ∷ before))
+    ≡ length (journal f before) + length (handlings f (Push (Output g) (Buffer b parcel)) before)
+    = length-append (journal f before) (handlings f (Push (Output g) (Buffer b parcel)) before) in
     elim (cases_Bool (g.0 == f.0)) [
-      | inl met ↦ let one : length (handlings f (Push (Output g) (Buffer b parcel)) before) ≡ 1 = more ∙ chosen (g.0 == f.0) 1 0 met in
-          let now : handled_since f (Push (Output g) (Buffer b parcel) ∷ before) ≡ handled_since f before + 1 = rw met refl in omega (arith, all, one, e, now)
-      | inr unmet ↦ let none : length (handlings f (Push (Output g) (Buffer b parcel)) before) ≡ 0 = more ∙ other (g.0 == f.0) 1 0 unmet in
-          let now : handled_since f (Push (Output g) (Buffer b parcel) ∷ before) ≡ handled_since f before = rw unmet refl in omega (arith, all, none, e, now)
+      | inl met ↦
+          let one : length (handlings f (Push (Output g) (Buffer b parcel)) before) ≡ 1 =
+          more ∙ if_met (g.0 == f.0) 1 0 met in
+          let now : handled_since f (Push (Output g) (Buffer b parcel) ∷ before) ≡ handled_since f before + 1 =
+          rw met refl in
+          omega (arith, all, one, e, now)
+      | inr unmet ↦
+          let none : length (handlings f (Push (Output g) (Buffer b parcel)) before) ≡ 0 =
+          more ∙ if_unmet (g.0 == f.0) 1 0 unmet in
+          let now : handled_since f (Push (Output g) (Buffer b parcel) ∷ before) ≡ handled_since f before =
+          rw unmet refl in
+          omega (arith, all, none, e, now)
     ]
 sum_step f setting role (Push (Output g) (Number n)) before may samples e = absurd may
 sum_step f setting role (Push (Mail g) (Buffer b parcel)) before may samples e = absurd may
 sum_step f setting role (Push (Mail g) (Number n)) before may samples e =
-    let same : length (journal f (Push (Mail g) (Number n) ∷ before)) ≡ length (journal f before) = ap length (append-nil (journal f before)) in
+    let same : length (journal f (Push (Mail g) (Number n) ∷ before)) ≡ length (journal f before) =
+    ap length (append-nil (journal f before)) in
     elim (cases_Bool (g.0 == f.0)) [
-      | inl met ↦ let of : handled_since g before ≡ handled_since f before = ap (λ (h : FnId). handled_since h before) (one_id g f met) in
-          let counted : mailed_count f (Push (Mail g) (Number n) ∷ before) ≡ count_in n + mailed_count f before = rw met refl in
+      | inl met ↦
+          let of : handled_since g before ≡ handled_since f before =
+          ap (λ (h : FnId). handled_since h before) (one_id g f met) in
+          let counted : mailed_count f (Push (Mail g) (Number n) ∷ before) ≡ count_in n + mailed_count f before =
+          rw met refl in
           let since : handled_since f (Push (Mail g) (Number n) ∷ before) ≡ 0 = rw met refl in
           let lost : lost_count f (Push (Mail g) (Number n) ∷ before) ≡ lost_count f before = refl in
           let made : count_in n ≡ handled_since g before = samples.0 in
-          mails (mailed_count f before) (lost_count f before) (handled_since f before) (mailed_count f (Push (Mail g) (Number n) ∷ before)) (lost_count f (Push (Mail g) (Number n) ∷ before)) (handled_since f (Push (Mail g) (Number n) ∷ before)) (count_in n) counted lost since (made ∙ of) ∙ e ∙ sym same
+          mails (mailed_count f before) (lost_count f before) (handled_since f before)
+          (mailed_count f (Push (Mail g) (Number n) ∷ before)) (lost_count f (Push (Mail g) (Number n) ∷ before))
+          (handled_since f (Push (Mail g) (Number n) ∷ before)) (count_in n) counted lost since (made ∙ of)
+          ∙ e
+          ∙ sym same
       | inr unmet ↦ rw unmet (e ∙ sym same)
     ]
 sum_step f setting role (Full (Mail g)) before may samples e =
-    let same : length (journal f (Full (Mail g) ∷ before)) ≡ length (journal f before) = ap length (append-nil (journal f before)) in
+    let same : length (journal f (Full (Mail g) ∷ before)) ≡ length (journal f before) =
+    ap length (append-nil (journal f before)) in
     elim (cases_Bool (g.0 == f.0)) [
-      | inl met ↦ let lost : lost_count f (Full (Mail g) ∷ before) ≡ handled_since f before + lost_count f before = rw met refl in
+      | inl met ↦
+          let lost : lost_count f (Full (Mail g) ∷ before) ≡ handled_since f before + lost_count f before =
+          rw met refl in
           let since : handled_since f (Full (Mail g) ∷ before) ≡ 0 = rw met refl in
-          loses (mailed_count f before) (lost_count f before) (handled_since f before) (lost_count f (Full (Mail g) ∷ before)) (handled_since f (Full (Mail g) ∷ before)) lost since ∙ e ∙ sym same
+          loses (mailed_count f before) (lost_count f before) (handled_since f before)
+          (lost_count f (Full (Mail g) ∷ before)) (handled_since f (Full (Mail g) ∷ before)) lost since
+          ∙ e
+          ∙ sym same
       | inr unmet ↦ rw unmet (e ∙ sym same)
     ]
 sum_step f setting role (Push (Lane g p) i) before may samples e = absurd may
@@ -137,25 +244,32 @@ sum_step f setting role (Empty a) before may samples e = e ∙ sym (ap length (a
 sum_step f setting role (Look a b c) before may samples e = e ∙ sym (ap length (append-nil (journal f before)))
 sum_step f setting role (Post a b) before may samples e = e ∙ sym (ap length (append-nil (journal f before)))
 
-log_counted : (f : FnId) (setting : Setting) (role : ℕ) (log : Log) → IsKind setting role Handles log → AreSamples log → Total f log ≡ length (journal f log)
+log_counted : (f : FnId) (setting : Setting) (role : ℕ) (log : Log) → IsKind setting role Handles log → AreSamples log
+    → Total f log ≡ length (journal f log)
 log_counted f setting role [] kind samples = refl
 log_counted f setting role (act ∷ before) kind samples =
     sum_step f setting role act before kind.0 samples.0 (log_counted f setting role before kind.1 samples.1)
 
-kind_handles : (layout : Layout) (role core : ℕ) → role ≡ layout.ports + layout.transmit + core → core < layout.cores → kind_of layout role ≡ Handles
+kind_handles : (layout : Layout) (role core : ℕ) → role ≡ layout.ports + layout.transmit + core → core < layout.cores
+    → kind_of layout role ≡ Handles
 kind_handles layout role core e less =
     let one : nat_lt role layout.ports ≡ false = le-ltb role layout.ports (omega arith) in
-    let two : nat_lt role (layout.ports + layout.transmit) ≡ false = le-ltb role (layout.ports + layout.transmit) (omega arith) in
-    let three : nat_lt role (layout.ports + layout.transmit + layout.cores) ≡ true = lt-ltb role (layout.ports + layout.transmit + layout.cores) (omega arith) in
+    let two : nat_lt role (layout.ports + layout.transmit) ≡ false =
+    le-ltb role (layout.ports + layout.transmit) (omega arith) in
+    let three : nat_lt role (layout.ports + layout.transmit + layout.cores) ≡ true =
+    lt-ltb role (layout.ports + layout.transmit + layout.cores) (omega arith) in
     rw (one, two, three) refl
 
 -- the role of a function's core is a core's
-core_handles : (layout : Layout) (f : ℕ) → IsLayout layout → f < layout.functions → kind_of layout (core_role layout f) ≡ Handles
+core_handles : (layout : Layout) (f : ℕ) → IsLayout layout → f < layout.functions
+    → kind_of layout (core_role layout f) ≡ Handles
 core_handles layout f is known =
-    kind_handles layout (core_role layout f) (slice_index layout.core_of f) refl (is.core_of f 0 (omega (arith, is.places, is.functions.1, known)))
+    kind_handles layout (core_role layout f) (slice_index layout.core_of f) refl
+    (is.core_of f 0 (omega (arith, is.places, is.functions.1, known)))
 
 -- the counts of a function's samples, mailed or lost, and what it handled since make up its journal
-pub samples_count : (setting : Setting) (past : History) (f : FnId) → IsLayout setting.layout → f.0 < setting.layout.functions
+pub samples_count : (setting : Setting) (past : History) (f : FnId)
+    → IsLayout setting.layout → f.0 < setting.layout.functions
     → IsOfBlocks setting (core_role setting.layout f.0) (log_of (core_role setting.layout f.0) past)
     → AreSamples (log_of (core_role setting.layout f.0) past)
     → Total f (log_of (core_role setting.layout f.0) past) ≡ length (journal_of setting past f)
@@ -164,7 +278,8 @@ samples_count setting past f is known blocks samples =
     log_counted f setting role (log_of role past)
     (is_kind setting role (log_of role past) Handles (core_handles setting.layout f.0 is known) blocks) samples
 
-since_step : (f : FnId) (act : Act) (was : Bool) (n : ℕ) → (was ≡ true → n ≡ 0) → sampled_after f act was ≡ true → since_after f act n ≡ 0
+since_step : (f : FnId) (act : Act) (was : Bool) (n : ℕ) → (was ≡ true → n ≡ 0) → sampled_after f act was ≡ true
+    → since_after f act n ≡ 0
 since_step f (Push (Output g) item) was n earlier e =
     elim (cases_Bool (g.0 == f.0)) [
       | inl met ↦ absurd (let off : false ≡ true = rw met at e in cc)
@@ -194,10 +309,15 @@ without_since : (mailed lost since all : ℕ) → mailed + lost + since ≡ all 
 without_since mailed lost since all e none = omega (arith, e, none)
 
 -- where a sample stands after the last push, the samples alone make up the journal
-pub samples_complete : (setting : Setting) (past : History) (f : FnId) → IsLayout setting.layout → f.0 < setting.layout.functions
+pub samples_complete : (setting : Setting) (past : History) (f : FnId)
+    → IsLayout setting.layout → f.0 < setting.layout.functions
     → IsOfBlocks setting (core_role setting.layout f.0) (log_of (core_role setting.layout f.0) past)
-    → AreSamples (log_of (core_role setting.layout f.0) past) → is_sampled f (log_of (core_role setting.layout f.0) past) ≡ true
-    → mailed_count f (log_of (core_role setting.layout f.0) past) + lost_count f (log_of (core_role setting.layout f.0) past) ≡ length (journal_of setting past f)
+    → AreSamples (log_of (core_role setting.layout f.0) past)
+    → is_sampled f (log_of (core_role setting.layout f.0) past) ≡ true
+    → mailed_count f (log_of (core_role setting.layout f.0) past)
+    + lost_count f (log_of (core_role setting.layout f.0) past)
+    ≡ length (journal_of setting past f)
 samples_complete setting past f is known blocks samples e =
     let log : Log = log_of (core_role setting.layout f.0) past in
-    without_since (mailed_count f log) (lost_count f log) (handled_since f log) (length (journal_of setting past f)) (samples_count setting past f is known blocks samples) (none_since f log e)
+    without_since (mailed_count f log) (lost_count f log) (handled_since f log) (length (journal_of setting past f))
+    (samples_count setting past f is known blocks samples) (none_since f log e)

@@ -1,8 +1,8 @@
 -- A crowd: of five frames of a port with three buffers two stand in a lane, the third finds it full, the fourth goes to
 -- another function, and the fifth finds the pool empty. The steps are lawful and follow the pattern.
-use Rattle.std.proofs.Common.{◌≡◌, ℕ, zero, suc, ◌<◌, true, inl, inr, [], ◌∷◌, refl, subst, arith, Some, None}
+use Rattle.std.proofs.Common.{◌≡◌, ℕ, zero, suc, ◌<◌, inl, inr, [], ◌∷◌, refl, arith, Some, None}
 use Rattle.std.specs.Prelude.{◌==◌, IsBitSet, replicate}
-use Rattle.std.proofs.lemmas.Bool.{cases_Bool, eqb-true}
+use Rattle.std.proofs.lemmas.Bool.{cases_Bool}
 use Rattle.onvm_base.specs.declared.ids.BufId.{BufId}
 use Rattle.onvm_base.specs.declared.ids.FnId.{FnId}
 use Rattle.onvm_base.specs.declared.ids.PortId.{PortId}
@@ -20,11 +20,21 @@ use Rattle.onvm_core.specs.Logs.{Setting, entry_parcel, log_of}
 use Rattle.onvm_core.specs.Blocks.{AllOfBlocks, IsOfBlocks}
 use Rattle.onvm_core.proofs.Plans.{narrow}
 use Rattle.onvm_core.proofs.Walk.{by}
-use Rattle.onvm_core.proofs.WalkLogs.{no_bit}
+use Rattle.onvm_core.proofs.WalkLogs.{no_bit, at_role}
 
 -- one port, one transmit role, one core with two functions; three buffers, rings of two
 abbrev pub layout : Layout
-layout = record { ports = 1; transmit = 1; cores = 1; functions = 2; buffers = 3; ring = 2; output = 2; core_of = replicate 32 0 }
+layout =
+    record {
+      ports = 1;
+      transmit = 1;
+      cores = 1;
+      functions = 2;
+      buffers = 3;
+      ring = 2;
+      output = 2;
+      core_of = replicate 32 0;
+    }
 
 abbrev pub port : PortId
 port = record { 0 = 0 }
@@ -46,7 +56,14 @@ b2 = record { 0 = 2 }
 
 -- frame number n of the port, on this chain
 abbrev pub frame_on : (n chain : ℕ) → Entry
-frame_on n chain = record { frame = record { port = port; number = n }; stamp = record { seconds = 1; nanos = 0; tail = 0 }; packet = n ∷ []; chain = record { 0 = chain }; hash = 5 }
+frame_on n chain =
+    record {
+      frame = record { port = port; number = n };
+      stamp = record { seconds = 1; nanos = 0; tail = 0 };
+      packet = n ∷ [];
+      chain = record { 0 = chain };
+      hash = 5;
+    }
 
 abbrev pub e1 : Entry
 e1 = frame_on 1 0
@@ -195,13 +212,34 @@ lawful_3 : IsLawful layout h3
 lawful_3 = (record { live = refl; allowed = record { known = omega arith; true_value = refl; names = tt } }, lawful_2)
 
 lawful_4 : IsLawful layout h4
-lawful_4 = (record { live = refl; allowed = record { known = (omega arith, omega arith); true_value = pool_3; names = tt } }, lawful_3)
+lawful_4 = (
+  record { live = refl; allowed = record { known = (omega arith, omega arith); true_value = pool_3; names = tt } },
+  lawful_3,
+)
 
 lawful_5 : IsLawful layout h5
-lawful_5 = (record { live = refl; allowed = record { known = omega arith; in_pool = refl; own_port = refl; shown = (refl, bit_7_0) } }, lawful_4)
+lawful_5 = (
+  record {
+    live = refl;
+    allowed = record { known = omega arith; in_pool = refl; own_port = refl; shown = (refl, bit_7_0) };
+  },
+  lawful_4,
+)
 
 lawful_6 : IsLawful layout h6
-lawful_6 = (record { live = refl; allowed = record { known = (omega arith, omega arith); own_end = refl; room = omega arith; suits = (record { known = omega arith; holder = refl }, omega arith) } }, lawful_5)
+lawful_6 = (
+  record {
+    live = refl;
+    allowed =
+        record {
+          known = (omega arith, omega arith);
+          own_end = refl;
+          room = omega arith;
+          suits = (record { known = omega arith; holder = refl }, omega arith);
+        };
+  },
+  lawful_5,
+)
 
 lawful_7 : IsLawful layout h7
 lawful_7 = (record { live = refl; allowed = record { known = omega arith; true_value = refl; names = tt } }, lawful_6)
@@ -210,13 +248,34 @@ lawful_8 : IsLawful layout h8
 lawful_8 = (record { live = refl; allowed = record { known = omega arith; true_value = refl; names = tt } }, lawful_7)
 
 lawful_9 : IsLawful layout h9
-lawful_9 = (record { live = refl; allowed = record { known = (omega arith, omega arith); true_value = pool_8; names = tt } }, lawful_8)
+lawful_9 = (
+  record { live = refl; allowed = record { known = (omega arith, omega arith); true_value = pool_8; names = tt } },
+  lawful_8,
+)
 
 lawful_10 : IsLawful layout h10
-lawful_10 = (record { live = refl; allowed = record { known = omega arith; in_pool = refl; own_port = refl; shown = (refl, bit_6_1) } }, lawful_9)
+lawful_10 = (
+  record {
+    live = refl;
+    allowed = record { known = omega arith; in_pool = refl; own_port = refl; shown = (refl, bit_6_1) };
+  },
+  lawful_9,
+)
 
 lawful_11 : IsLawful layout h11
-lawful_11 = (record { live = refl; allowed = record { known = (omega arith, omega arith); own_end = refl; room = omega arith; suits = (record { known = omega arith; holder = refl }, omega arith) } }, lawful_10)
+lawful_11 = (
+  record {
+    live = refl;
+    allowed =
+        record {
+          known = (omega arith, omega arith);
+          own_end = refl;
+          room = omega arith;
+          suits = (record { known = omega arith; holder = refl }, omega arith);
+        };
+  },
+  lawful_10,
+)
 
 lawful_12 : IsLawful layout h12
 lawful_12 = (record { live = refl; allowed = record { known = omega arith; true_value = refl; names = tt } }, lawful_11)
@@ -225,16 +284,34 @@ lawful_13 : IsLawful layout h13
 lawful_13 = (record { live = refl; allowed = record { known = omega arith; true_value = refl; names = tt } }, lawful_12)
 
 lawful_14 : IsLawful layout h14
-lawful_14 = (record { live = refl; allowed = record { known = (omega arith, omega arith); true_value = pool_13; names = tt } }, lawful_13)
+lawful_14 = (
+  record { live = refl; allowed = record { known = (omega arith, omega arith); true_value = pool_13; names = tt } },
+  lawful_13,
+)
 
 lawful_15 : IsLawful layout h15
-lawful_15 = (record { live = refl; allowed = record { known = omega arith; in_pool = refl; own_port = refl; shown = (refl, bit_4_2) } }, lawful_14)
+lawful_15 = (
+  record {
+    live = refl;
+    allowed = record { known = omega arith; in_pool = refl; own_port = refl; shown = (refl, bit_4_2) };
+  },
+  lawful_14,
+)
 
 lawful_16 : IsLawful layout h16
-lawful_16 = (record { live = refl; allowed = record { known = (omega arith, omega arith); own_end = refl; full = refl } }, lawful_15)
+lawful_16 = (
+  record { live = refl; allowed = record { known = (omega arith, omega arith); own_end = refl; full = refl } },
+  lawful_15,
+)
 
 lawful_17 : IsLawful layout h17
-lawful_17 = (record { live = refl; allowed = record { holds = record { known = omega arith; holder = refl }; names = (omega arith, omega arith) } }, lawful_16)
+lawful_17 = (
+  record {
+    live = refl;
+    allowed = record { holds = record { known = omega arith; holder = refl }; names = (omega arith, omega arith) };
+  },
+  lawful_16,
+)
 
 lawful_18 : IsLawful layout h18
 lawful_18 = (record { live = refl; allowed = record { known = omega arith; true_value = refl; names = tt } }, lawful_17)
@@ -243,13 +320,34 @@ lawful_19 : IsLawful layout h19
 lawful_19 = (record { live = refl; allowed = record { known = omega arith; true_value = refl; names = tt } }, lawful_18)
 
 lawful_20 : IsLawful layout h20
-lawful_20 = (record { live = refl; allowed = record { known = (omega arith, omega arith); true_value = pool_19; names = tt } }, lawful_19)
+lawful_20 = (
+  record { live = refl; allowed = record { known = (omega arith, omega arith); true_value = pool_19; names = tt } },
+  lawful_19,
+)
 
 lawful_21 : IsLawful layout h21
-lawful_21 = (record { live = refl; allowed = record { known = omega arith; in_pool = refl; own_port = refl; shown = (refl, bit_4_2) } }, lawful_20)
+lawful_21 = (
+  record {
+    live = refl;
+    allowed = record { known = omega arith; in_pool = refl; own_port = refl; shown = (refl, bit_4_2) };
+  },
+  lawful_20,
+)
 
 lawful_22 : IsLawful layout h22
-lawful_22 = (record { live = refl; allowed = record { known = (omega arith, omega arith); own_end = refl; room = omega arith; suits = (record { known = omega arith; holder = refl }, omega arith) } }, lawful_21)
+lawful_22 = (
+  record {
+    live = refl;
+    allowed =
+        record {
+          known = (omega arith, omega arith);
+          own_end = refl;
+          room = omega arith;
+          suits = (record { known = omega arith; holder = refl }, omega arith);
+        };
+  },
+  lawful_21,
+)
 
 lawful_23 : IsLawful layout h23
 lawful_23 = (record { live = refl; allowed = record { known = omega arith; true_value = refl; names = tt } }, lawful_22)
@@ -258,7 +356,10 @@ lawful_24 : IsLawful layout h24
 lawful_24 = (record { live = refl; allowed = record { known = omega arith; true_value = refl; names = tt } }, lawful_23)
 
 lawful_25 : IsLawful layout h25
-lawful_25 = (record { live = refl; allowed = record { known = (omega arith, omega arith); true_value = pool_24; names = tt } }, lawful_24)
+lawful_25 = (
+  record { live = refl; allowed = record { known = (omega arith, omega arith); true_value = pool_24; names = tt } },
+  lawful_24,
+)
 
 abbrev pub crowd : History
 crowd = h25
@@ -296,9 +397,17 @@ receive_is = (
                           (
                             inr (e3, refl, (refl, λ k raised. no_bit k raised.bit)),
                             (
-                              inr (e2, refl, (refl, refl, record { function = f; cursor = 0; move = refl; lane = refl })),
+                              inr (
+                                e2,
+                                refl,
+                                (refl, refl, record { function = f; cursor = 0; move = refl; lane = refl }),
+                              ),
                               (
-                                inr (e2, refl, record { known = omega arith; word = refl; shown = bit_6_1; lowest = lowest_6 }),
+                                inr (
+                                  e2,
+                                  refl,
+                                  record { known = omega arith; word = refl; shown = bit_6_1; lowest = lowest_6 },
+                                ),
                                 (
                                   inr (e2, refl, (refl, λ none. absurd (omega (arith, none)))),
                                   (
@@ -306,9 +415,22 @@ receive_is = (
                                     (
                                       inr (e2, refl, (refl, λ k raised. no_bit k raised.bit)),
                                       (
-                                        inr (e1, refl, (refl, refl, record { function = f; cursor = 0; move = refl; lane = refl })),
+                                        inr (
+                                          e1,
+                                          refl,
+                                          (refl, refl, record { function = f; cursor = 0; move = refl; lane = refl }),
+                                        ),
                                         (
-                                          inr (e1, refl, record { known = omega arith; word = refl; shown = bit_7_0; lowest = lowest_7 }),
+                                          inr (
+                                            e1,
+                                            refl,
+                                            record {
+                                              known = omega arith;
+                                              word = refl;
+                                              shown = bit_7_0;
+                                              lowest = lowest_7;
+                                            },
+                                          ),
                                           (
                                             inr (e1, refl, (refl, λ none. absurd (omega (arith, none)))),
                                             (
@@ -344,15 +466,12 @@ receive_is = (
 lead_is : IsOfBlocks setting 4 (log_of 4 crowd)
 lead_is = (tt, tt)
 
-at_role : (n role : ℕ) → IsOfBlocks setting n (log_of n crowd) → (n == role) ≡ true → IsOfBlocks setting role (log_of role crowd)
-at_role n role is met = subst (λ r. IsOfBlocks setting r (log_of r crowd)) (eqb-true n role met) is
-
 pub crowd_follows : AllOfBlocks setting crowd
 crowd_follows role =
     elim (cases_Bool (0 == role)) [
-      | inl met ↦ at_role 0 role receive_is met
+      | inl met ↦ at_role setting crowd 0 role receive_is met
       | inr not_receive ↦ elim (cases_Bool (4 == role)) [
-        | inl met ↦ at_role 4 role lead_is met
+        | inl met ↦ at_role setting crowd 4 role lead_is met
         | inr not_lead ↦ rw (not_receive, not_lead) tt
       ]
     ]

@@ -36,21 +36,22 @@ use Rattle.onvm_core.proofs.Loads.{own_load, own_load_is, HasLoad, pool_load, co
 use Rattle.onvm_core.proofs.Hands.{is_kind, IsKind}
 use Rattle.onvm_core.proofs.Loads.{IsAt, content_at, first_of}
 use Rattle.onvm_core.proofs.Hands.{HasTaken, HasHand, HasSend, receive_has, core_has, send_has}
-use Rattle.onvm_core.proofs.Balance.{own_blocks, starts, own_begins, kind_receives, kind_other, other_starts, within_of}
-
-sum_same : (f g : ℕ → ℕ) (n : ℕ) → ((k : ℕ) → f k ≡ g k) → sum_below f n ≡ sum_below g n
-sum_same f g zero h = refl
-sum_same f g (suc n) h = rw (h n, sum_same f g n h) refl
+use Rattle.onvm_core.proofs.Balance.{own_blocks}
+use Rattle.onvm_core.proofs.Begun.{starts, own_begins, kind_receives, kind_other, other_starts}
+use Rattle.onvm_core.proofs.Sums.{sum_same}
+use Rattle.std.proofs.lemmas.Option.{slice_get_within}
 
 sum_apart : (f g : ℕ → ℕ) (n x : ℕ) → n ≤ x → ((k : ℕ) → (k ≡ x → ⊥) → f k ≡ g k) → sum_below f n ≡ sum_below g n
 sum_apart f g zero x le h = refl
 sum_apart f g (suc n) x le h = rw (h n (λ e. omega arith), sum_apart f g n x (omega arith) h) refl
 
-sum_change : (f g : ℕ → ℕ) (n x : ℕ) → x < n → ((k : ℕ) → (k ≡ x → ⊥) → f k ≡ g k) → sum_below f n + g x ≡ sum_below g n + f x
+sum_change : (f g : ℕ → ℕ) (n x : ℕ) → x < n → ((k : ℕ) → (k ≡ x → ⊥) → f k ≡ g k)
+    → sum_below f n + g x ≡ sum_below g n + f x
 sum_change f g zero x lt h = absurd (omega arith)
 sum_change f g (suc n) x lt h =
     elim (cases_order x n) [
-      | inl e ↦ rw e (omega (arith, sum_apart f g n n (omega arith) (subst (λ y. (k : ℕ) → (k ≡ y → ⊥) → f k ≡ g k) e h)))
+      | inl e ↦
+          rw e (omega (arith, sum_apart f g n n (omega arith) (subst (λ y. (k : ℕ) → (k ≡ y → ⊥) → f k ≡ g k) e h)))
       | inr (inl less) ↦ omega (arith, sum_change f g n x less h, h n (λ e. omega arith))
       | inr (inr more) ↦ absurd (omega arith)
     ]
@@ -67,9 +68,14 @@ sum_falls f g (suc n) x h le =
 -- What is pushed weighs no more than before
 
 abbrev Lighter : Layout → ℕ → Option (ℕ × Load) → RingId → BufId → Parcel → Type 0
-Lighter layout role own ring b parcel = (what : Load) × (own ≡ Some (b.0, what)) × (weight layout (Ring ring) (Some (Loaded parcel)) ≤ weight layout (Role role) (Some what))
+Lighter layout role own ring b parcel =
+    (what : Load) × (own ≡ Some (b.0, what))
+    × (weight layout (Ring ring) (Some (Loaded parcel)) ≤ weight layout (Role role) (Some what))
 
-receive_lighter : (setting : Setting) (port : ℕ) (e : Entry) (phase : ReceivePhase) (own : Option (ℕ × Load)) (ring : RingId) (b : BufId) (parcel : Parcel) → HasTaken port own phase → MayReceiveFor setting port e phase (Push ring (Buffer b parcel)) → Lighter setting.layout port own ring b parcel
+receive_lighter : (setting : Setting) (port : ℕ) (e : Entry) (phase : ReceivePhase) (own : Option (ℕ × Load))
+    (ring : RingId) (b : BufId) (parcel : Parcel)
+    → HasTaken port own phase → MayReceiveFor setting port e phase (Push ring (Buffer b parcel))
+    → Lighter setting.layout port own ring b parcel
 receive_lighter setting port e (Took done buf) own ring b parcel h may = (
   Fresh (record { port = record { 0 = port }; number = done + 1 }),
   h ∙ ap (λ (n : ℕ). Some (n, Fresh (record { port = record { 0 = port }; number = done + 1 }))) (sym may.0),
@@ -81,47 +87,78 @@ receive_lighter setting port e (Seeks done k) own ring b parcel h may = absurd m
 receive_lighter setting port e (Sees done index seen) own ring b parcel h may = absurd may
 receive_lighter setting port e (Barred done buf r) own ring b parcel h may = absurd may
 
-core_lighter : (setting : Setting) (role : ℕ) (before : Log) (own : Option (ℕ × Load)) (ring : RingId) (b : BufId) (parcel : Parcel) → HasHand own (core_hand before) → length parcel.trail ≤ 32 → MayHandle setting role before (Push ring (Buffer b parcel)) → Lighter setting.layout role own ring b parcel
+core_lighter : (setting : Setting) (role : ℕ) (before : Log) (own : Option (ℕ × Load)) (ring : RingId) (b : BufId)
+    (parcel : Parcel)
+    → HasHand own (core_hand before) → length parcel.trail ≤ 32
+    → MayHandle setting role before (Push ring (Buffer b parcel))
+    → Lighter setting.layout role own ring b parcel
 core_lighter setting role before own (Output f) b parcel h short may =
     let hand : Hand = may.hand in
-    let longer : length parcel.trail ≡ length hand.parcel.trail + 1 = ap (λ (p : Parcel). length p.trail) may.handled.same ∙ length_push hand.parcel.trail (record { function = f; place = crumb_place f before; verdict = may.handled.verdict }) in (
+    let longer : length parcel.trail ≡ length hand.parcel.trail + 1 =
+    ap (λ (p : Parcel). length p.trail) may.handled.same ∙ length_push hand.parcel.trail
+    (record { function = f; place = crumb_place f before; verdict = may.handled.verdict }) in (
       Loaded hand.parcel,
       subst (HasHand own) may.held h ∙ ap (λ (n : ℕ). Some (n, Loaded hand.parcel)) may.same,
-      elim (cases_Bool (is_sender setting.layout role)) [ inl met ↦ rw met (omega (arith, longer, short)) | inr unmet ↦ rw unmet (omega (arith, longer, short)) ],
+      elim (cases_Bool (is_sender setting.layout role)) [
+        | inl met ↦ rw met (omega (arith, longer, short))
+        | inr unmet ↦ rw unmet (omega (arith, longer, short))
+      ],
     )
 core_lighter setting role before own (Mail f) b parcel h short may = absurd may
 core_lighter setting role before own (Lane f p) b parcel h short may = absurd may
 
-send_lighter : (setting : Setting) (feeder : ℕ) (phase : SendPhase) (own : Option (ℕ × Load)) (ring : RingId) (b : BufId) (parcel : Parcel) → HasSend own phase → MaySend setting feeder phase (Push ring (Buffer b parcel)) → Lighter setting.layout feeder own ring b parcel
+send_lighter : (setting : Setting) (feeder : ℕ) (phase : SendPhase) (own : Option (ℕ × Load)) (ring : RingId)
+    (b : BufId) (parcel : Parcel) → HasSend own phase → MaySend setting feeder phase (Push ring (Buffer b parcel))
+    → Lighter setting.layout feeder own ring b parcel
 send_lighter setting feeder Free own ring b parcel h may = absurd may
 send_lighter setting feeder (Sending hand) own ring b parcel h may =
     let same : length parcel.trail ≡ length hand.parcel.trail = ap (λ (p : Parcel). length p.trail) may.1.2 in (
       Loaded hand.parcel,
       h ∙ ap (λ (n : ℕ). Some (n, Loaded hand.parcel)) (sym may.0),
-      rw may.1.1.lane (elim (cases_Bool (is_sender setting.layout feeder)) [ inl met ↦ rw met (omega (arith, same)) | inr unmet ↦ rw unmet (omega (arith, same)) ]),
+      rw may.1.1.lane (elim (cases_Bool (is_sender setting.layout feeder)) [
+        | inl met ↦ rw met (omega (arith, same))
+        | inr unmet ↦ rw unmet (omega (arith, same))
+      ]),
     )
 send_lighter setting feeder (TurnsBack hand r) own ring b parcel h may = absurd may
 
-lighter_by_kind : (setting : Setting) (role : ℕ) (kind : Kind) (log : Log) (ring : RingId) (b : BufId) (parcel : Parcel) → length parcel.trail ≤ 32 → IsKind setting role kind (Push ring (Buffer b parcel) ∷ log) → Lighter setting.layout role (own_load setting role log) ring b parcel
+lighter_by_kind : (setting : Setting) (role : ℕ) (kind : Kind) (log : Log) (ring : RingId) (b : BufId) (parcel : Parcel)
+    → length parcel.trail ≤ 32 → IsKind setting role kind (Push ring (Buffer b parcel) ∷ log)
+    → Lighter setting.layout role (own_load setting role log) ring b parcel
 lighter_by_kind setting role Receives log ring b parcel short h =
     elim h.0 [
       | inl mark ↦ absurd mark.1
-      | inr block ↦ receive_lighter setting role block.0 (receive_phase setting log) (own_load setting role log) ring b parcel (receive_has setting role log h.1) block.2
+      | inr block ↦
+          receive_lighter setting role block.0 (receive_phase setting log) (own_load setting role log) ring b parcel
+          (receive_has setting role log h.1) block.2
     ]
-lighter_by_kind setting role Sends log ring b parcel short h = send_lighter setting role (send_phase log) (own_load setting role log) ring b parcel (send_has setting role log h.1) h.0
-lighter_by_kind setting role Handles log ring b parcel short h = core_lighter setting role log (own_load setting role log) ring b parcel (core_has setting role log h.1) short h.0
+lighter_by_kind setting role Sends log ring b parcel short h =
+    send_lighter setting role (send_phase log) (own_load setting role log) ring b parcel
+    (send_has setting role log h.1) h.0
+lighter_by_kind setting role Handles log ring b parcel short h =
+    core_lighter setting role log (own_load setting role log) ring b parcel (core_has setting role log h.1) short h.0
 lighter_by_kind setting role Ticks log ring b parcel short h = absurd h.0
 lighter_by_kind setting role Leads log ring b parcel short h = absurd h.0
 
-short_of : (layout : Layout) (past : History) (role : ℕ) (ring : RingId) (b : BufId) (parcel : Parcel) → Suits layout past role ring (Buffer b parcel) → length parcel.trail ≤ 32
+short_of : (layout : Layout) (past : History) (role : ℕ) (ring : RingId) (b : BufId) (parcel : Parcel)
+    → Suits layout past role ring (Buffer b parcel)
+    → length parcel.trail ≤ 32
 short_of layout past role (Lane f p) b parcel suits = omega (arith, suits.1)
 short_of layout past role (Output f) b parcel suits = suits.2
 short_of layout past role (Mail f) b parcel suits = absurd suits
 
 -- what is popped weighs no more than before
-popped_lighter : (layout : Layout) (ring : RingId) (parcel : Parcel) → weight layout (Role (consumer layout ring)) (Some (Loaded parcel)) ≤ weight layout (Ring ring) (Some (Loaded parcel)) ⊎ ((f : FnId) × (ring ≡ Mail f))
-popped_lighter layout (Lane f p) parcel = inl (rw (le-ltb (core_role layout f.0) (layout.ports + layout.transmit) (omega arith)) (omega arith))
-popped_lighter layout (Output f) parcel = inl (elim (cases_Bool (is_sender layout (consumer layout (Output f)))) [ inl met ↦ rw met (omega arith) | inr unmet ↦ rw unmet (omega arith) ])
+popped_lighter : (layout : Layout) (ring : RingId) (parcel : Parcel)
+    → weight layout (Role (consumer layout ring)) (Some (Loaded parcel))
+    ≤ weight layout (Ring ring) (Some (Loaded parcel))
+    ⊎ ((f : FnId) × (ring ≡ Mail f))
+popped_lighter layout (Lane f p) parcel =
+    inl (rw (le-ltb (core_role layout f.0) (layout.ports + layout.transmit) (omega arith)) (omega arith))
+popped_lighter layout (Output f) parcel =
+    inl (elim (cases_Bool (is_sender layout (consumer layout (Output f)))) [
+      | inl met ↦ rw met (omega arith)
+      | inr unmet ↦ rw unmet (omega arith)
+    ])
 popped_lighter layout (Mail f) parcel = inr (f, refl)
 
 abbrev takes : Act → ℕ
@@ -131,72 +168,175 @@ takes _ = 0
 -- what must be known of places and loads before an act
 abbrev Lightens : Layout → ℕ → (ℕ → Place) → (ℕ → Option Load) → ℕ → Act → Type 0
 Lightens layout role places loads n (Take b) = (b.0 < n) × (loads b.0 ≡ None)
-Lightens layout role places loads n (Push r (Buffer b parcel)) = weight layout (Ring r) (Some (Loaded parcel)) ≤ weight layout (places b.0) (loads b.0)
-Lightens layout role places loads n (Pop r (Buffer b parcel)) = weight layout (Role role) (Some (Loaded parcel)) ≤ weight layout (places b.0) (loads b.0)
+Lightens layout role places loads n (Push r (Buffer b parcel)) =
+    weight layout (Ring r) (Some (Loaded parcel)) ≤ weight layout (places b.0) (loads b.0)
+Lightens layout role places loads n (Pop r (Buffer b parcel)) =
+    weight layout (Role role) (Some (Loaded parcel)) ≤ weight layout (places b.0) (loads b.0)
 Lightens layout role places loads n _ = Unit {0}
 
 abbrev heavy_after : Layout → ℕ → FrameId → Act → (ℕ → Place) → (ℕ → Option Load) → ℕ → ℕ
-heavy_after layout role fresh act places loads buf = weight layout (unwrap_or (puts buf role act) (places buf)) (load_after buf fresh act (loads buf))
+heavy_after layout role fresh act places loads buf =
+    weight layout (unwrap_or (puts buf role act) (places buf)) (load_after buf fresh act (loads buf))
 
-buffers_step : (layout : Layout) (role : ℕ) (fresh : FrameId) (act : Act) (places : ℕ → Place) (loads : ℕ → Option Load) (n : ℕ) → Lightens layout role places loads n act → sum_below (heavy_after layout role fresh act places loads) n ≤ sum_below (λ buf. weight layout (places buf) (loads buf)) n + 66 * takes act
+buffers_step : (layout : Layout) (role : ℕ) (fresh : FrameId) (act : Act) (places : ℕ → Place)
+    (loads : ℕ → Option Load) (n : ℕ) → Lightens layout role places loads n act
+    → sum_below (heavy_after layout role fresh act places loads) n
+    ≤ sum_below (λ buf. weight layout (places buf) (loads buf)) n + 66 * takes act
 buffers_step layout role fresh (Take b) places loads n facts =
-    let changed : sum_below (heavy_after layout role fresh (Take b) places loads) n + weight layout (places b.0) (loads b.0) ≡ sum_below (λ buf. weight layout (places buf) (loads buf)) n + heavy_after layout role fresh (Take b) places loads b.0
-    = sum_change (heavy_after layout role fresh (Take b) places loads) (λ buf. weight layout (places buf) (loads buf)) n b.0 facts.0 (λ k apart. rw (ne_eqb b.0 k (λ e. apart (sym e))) refl) in
+    let changed : sum_below (heavy_after layout role fresh (Take b) places loads) n
+    + weight layout (places b.0) (loads b.0)
+    ≡ sum_below (λ buf. weight layout (places buf) (loads buf)) n
+    + heavy_after layout role fresh (Take b) places loads b.0
+    = sum_change (heavy_after layout role fresh (Take b) places loads)
+    (λ buf. weight layout (places buf) (loads buf)) n b.0 facts.0
+    (λ k apart. rw (ne_eqb b.0 k (λ e. apart (sym e))) refl) in
     let now : heavy_after layout role fresh (Take b) places loads b.0 ≡ 66 = rw (eq-eqb b.0 b.0 refl) refl in
     omega (arith, changed, now)
 buffers_step layout role fresh (Give b outcome parcel) places loads n facts =
-    let now : heavy_after layout role fresh (Give b outcome parcel) places loads b.0 ≡ 0 = rw (eq-eqb b.0 b.0 refl) refl in
-    omega (arith, sum_falls (heavy_after layout role fresh (Give b outcome parcel) places loads) (λ buf. weight layout (places buf) (loads buf)) n b.0 (λ k apart. rw (ne_eqb b.0 k (λ e. apart (sym e))) refl) (omega (arith, now)))
+    let now : heavy_after layout role fresh (Give b outcome parcel) places loads b.0 ≡ 0 =
+    rw (eq-eqb b.0 b.0 refl) refl in
+    omega (
+      arith,
+      sum_falls (heavy_after layout role fresh (Give b outcome parcel) places loads)
+          (λ buf. weight layout (places buf) (loads buf)) n b.0 (λ k apart. rw (ne_eqb b.0 k (λ e. apart (sym e))) refl)
+          (omega (arith, now)),
+    )
 buffers_step layout role fresh (Push r (Buffer b parcel)) places loads n facts =
-    let now : heavy_after layout role fresh (Push r (Buffer b parcel)) places loads b.0 ≡ weight layout (Ring r) (Some (Loaded parcel)) = rw (eq-eqb b.0 b.0 refl) refl in
-    omega (arith, sum_falls (heavy_after layout role fresh (Push r (Buffer b parcel)) places loads) (λ buf. weight layout (places buf) (loads buf)) n b.0 (λ k apart. rw (ne_eqb b.0 k (λ e. apart (sym e))) refl) (omega (arith, now, facts)))
+    let now : heavy_after layout role fresh (Push r (Buffer b parcel)) places loads b.0
+    ≡ weight layout (Ring r) (Some (Loaded parcel))
+    = rw (eq-eqb b.0 b.0 refl) refl in
+    omega (
+      arith,
+      sum_falls (heavy_after layout role fresh (Push r (Buffer b parcel)) places loads)
+          (λ buf. weight layout (places buf) (loads buf)) n b.0 (λ k apart. rw (ne_eqb b.0 k (λ e. apart (sym e))) refl)
+          (omega (arith, now, facts)),
+    )
 buffers_step layout role fresh (Pop r (Buffer b parcel)) places loads n facts =
-    let now : heavy_after layout role fresh (Pop r (Buffer b parcel)) places loads b.0 ≡ weight layout (Role role) (Some (Loaded parcel)) = rw (eq-eqb b.0 b.0 refl) refl in
-    omega (arith, sum_falls (heavy_after layout role fresh (Pop r (Buffer b parcel)) places loads) (λ buf. weight layout (places buf) (loads buf)) n b.0 (λ k apart. rw (ne_eqb b.0 k (λ e. apart (sym e))) refl) (omega (arith, now, facts)))
-buffers_step layout role fresh (Push r (Number m)) places loads n facts = omega (arith, sum_same (heavy_after layout role fresh (Push r (Number m)) places loads) (λ buf. weight layout (places buf) (loads buf)) n (λ k. refl))
-buffers_step layout role fresh (Pop r (Number m)) places loads n facts = omega (arith, sum_same (heavy_after layout role fresh (Pop r (Number m)) places loads) (λ buf. weight layout (places buf) (loads buf)) n (λ k. refl))
-buffers_step layout role fresh (Split a) places loads n facts = omega (arith, sum_same (heavy_after layout role fresh (Split a) places loads) (λ buf. weight layout (places buf) (loads buf)) n (λ k. refl))
-buffers_step layout role fresh (Join a) places loads n facts = omega (arith, sum_same (heavy_after layout role fresh (Join a) places loads) (λ buf. weight layout (places buf) (loads buf)) n (λ k. refl))
-buffers_step layout role fresh (Full a) places loads n facts = omega (arith, sum_same (heavy_after layout role fresh (Full a) places loads) (λ buf. weight layout (places buf) (loads buf)) n (λ k. refl))
-buffers_step layout role fresh (Empty a) places loads n facts = omega (arith, sum_same (heavy_after layout role fresh (Empty a) places loads) (λ buf. weight layout (places buf) (loads buf)) n (λ k. refl))
-buffers_step layout role fresh (Look x y z) places loads n facts = omega (arith, sum_same (heavy_after layout role fresh (Look x y z) places loads) (λ buf. weight layout (places buf) (loads buf)) n (λ k. refl))
-buffers_step layout role fresh (Post x y) places loads n facts = omega (arith, sum_same (heavy_after layout role fresh (Post x y) places loads) (λ buf. weight layout (places buf) (loads buf)) n (λ k. refl))
+    let now : heavy_after layout role fresh (Pop r (Buffer b parcel)) places loads b.0
+    ≡ weight layout (Role role) (Some (Loaded parcel))
+    = rw (eq-eqb b.0 b.0 refl) refl in
+    omega (
+      arith,
+      sum_falls (heavy_after layout role fresh (Pop r (Buffer b parcel)) places loads)
+          (λ buf. weight layout (places buf) (loads buf)) n b.0 (λ k apart. rw (ne_eqb b.0 k (λ e. apart (sym e))) refl)
+          (omega (arith, now, facts)),
+    )
+buffers_step layout role fresh (Push r (Number m)) places loads n facts =
+    omega (
+      arith,
+      sum_same (heavy_after layout role fresh (Push r (Number m)) places loads)
+          (λ buf. weight layout (places buf) (loads buf)) n (λ k less. refl),
+    )
+buffers_step layout role fresh (Pop r (Number m)) places loads n facts =
+    omega (
+      arith,
+      sum_same (heavy_after layout role fresh (Pop r (Number m)) places loads)
+          (λ buf. weight layout (places buf) (loads buf)) n (λ k less. refl),
+    )
+buffers_step layout role fresh (Split a) places loads n facts =
+    omega (
+      arith,
+      sum_same (heavy_after layout role fresh (Split a) places loads) (λ buf. weight layout (places buf) (loads buf)) n
+          (λ k less. refl),
+    )
+buffers_step layout role fresh (Join a) places loads n facts =
+    omega (
+      arith,
+      sum_same (heavy_after layout role fresh (Join a) places loads) (λ buf. weight layout (places buf) (loads buf)) n
+          (λ k less. refl),
+    )
+buffers_step layout role fresh (Full a) places loads n facts =
+    omega (
+      arith,
+      sum_same (heavy_after layout role fresh (Full a) places loads) (λ buf. weight layout (places buf) (loads buf)) n
+          (λ k less. refl),
+    )
+buffers_step layout role fresh (Empty a) places loads n facts =
+    omega (
+      arith,
+      sum_same (heavy_after layout role fresh (Empty a) places loads) (λ buf. weight layout (places buf) (loads buf)) n
+          (λ k less. refl),
+    )
+buffers_step layout role fresh (Look x y z) places loads n facts =
+    omega (
+      arith,
+      sum_same (heavy_after layout role fresh (Look x y z) places loads)
+          (λ buf. weight layout (places buf) (loads buf)) n (λ k less. refl),
+    )
+buffers_step layout role fresh (Post x y) places loads n facts =
+    omega (
+      arith,
+      sum_same (heavy_after layout role fresh (Post x y) places loads)
+          (λ buf. weight layout (places buf) (loads buf)) n (λ k less. refl),
+    )
 
-no_pop : (setting : Setting) (port : ℕ) (e : Entry) (phase : ReceivePhase) (act : Act) (ring : RingId) (item : Item) → act ≡ Pop ring item → MayReceiveFor setting port e phase act → ⊥
-no_pop setting port e (Between done) act ring item same may = subst (MayReceiveFor setting port e (Between done)) same may
+no_pop : (setting : Setting) (port : ℕ) (e : Entry) (phase : ReceivePhase) (act : Act) (ring : RingId) (item : Item)
+    → act ≡ Pop ring item → MayReceiveFor setting port e phase act
+    → ⊥
+no_pop setting port e (Between done) act ring item same may =
+    subst (MayReceiveFor setting port e (Between done)) same may
 no_pop setting port e (Asks done k) act ring item same may = subst (MayReceiveFor setting port e (Asks done k)) same may
-no_pop setting port e (Seeks done k) act ring item same may = subst (MayReceiveFor setting port e (Seeks done k)) same may
-no_pop setting port e (Sees done index seen) act ring item same may = subst (MayReceiveFor setting port e (Sees done index seen)) same may
-no_pop setting port e (Took done buf) act ring item same may = subst (MayReceiveFor setting port e (Took done buf)) same may
-no_pop setting port e (Barred done buf r) act ring item same may = subst (MayReceiveFor setting port e (Barred done buf r)) same may
+no_pop setting port e (Seeks done k) act ring item same may =
+    subst (MayReceiveFor setting port e (Seeks done k)) same may
+no_pop setting port e (Sees done index seen) act ring item same may =
+    subst (MayReceiveFor setting port e (Sees done index seen)) same may
+no_pop setting port e (Took done buf) act ring item same may =
+    subst (MayReceiveFor setting port e (Took done buf)) same may
+no_pop setting port e (Barred done buf r) act ring item same may =
+    subst (MayReceiveFor setting port e (Barred done buf r)) same may
 
-no_mail : (setting : Setting) (feeder : ℕ) (phase : SendPhase) (f : FnId) (b : BufId) (parcel : Parcel) → MaySend setting feeder phase (Pop (Mail f) (Buffer b parcel)) → ⊥
+no_mail : (setting : Setting) (feeder : ℕ) (phase : SendPhase) (f : FnId) (b : BufId) (parcel : Parcel)
+    → MaySend setting feeder phase (Pop (Mail f) (Buffer b parcel))
+    → ⊥
 no_mail setting feeder Free f b parcel may = may
 no_mail setting feeder (Sending hand) f b parcel may = may
 no_mail setting feeder (TurnsBack hand r) f b parcel may = may
 
 -- no parcel is popped from a mail ring
-no_mail_parcel : (setting : Setting) (role : ℕ) (kind : Kind) (log : Log) (f : FnId) (b : BufId) (parcel : Parcel) → MayFollow setting role kind log (Pop (Mail f) (Buffer b parcel)) → ⊥
-no_mail_parcel setting role Receives log f b parcel may = elim may [ inl mark ↦ mark.1 | inr block ↦ no_pop setting role block.0 (receive_phase setting log) (Pop (Mail f) (Buffer b parcel)) (Mail f) (Buffer b parcel) refl block.2 ]
+no_mail_parcel : (setting : Setting) (role : ℕ) (kind : Kind) (log : Log) (f : FnId) (b : BufId) (parcel : Parcel)
+    → MayFollow setting role kind log (Pop (Mail f) (Buffer b parcel))
+    → ⊥
+no_mail_parcel setting role Receives log f b parcel may =
+    elim may [
+      | inl mark ↦ mark.1
+      | inr block ↦
+          no_pop setting role block.0 (receive_phase setting log) (Pop (Mail f) (Buffer b parcel)) (Mail f)
+          (Buffer b parcel) refl block.2
+    ]
 no_mail_parcel setting role Sends log f b parcel may = no_mail setting role (send_phase log) f b parcel may
 no_mail_parcel setting role Handles log f b parcel may = may
 no_mail_parcel setting role Ticks log f b parcel may = may
 no_mail_parcel setting role Leads log f b parcel may = may
 
 -- lawful steps and blocks lighten
-lightens_of : (setting : Setting) (before : History) (role : ℕ) (act : Act) → IsLawful setting.layout before → AllowsAct setting.layout before role act → IsOfBlocks setting role (act ∷ log_of role before) → Lightens setting.layout role (λ buf. place_of buf before) (λ buf. load setting buf before) (setting.layout.ports * setting.layout.buffers) act
-lightens_of setting before role (Take b) lawful allowed blocks = (allowed.known, pool_load setting before b.0 allowed.in_pool)
+lightens_of : (setting : Setting) (before : History) (role : ℕ) (act : Act)
+    → IsLawful setting.layout before → AllowsAct setting.layout before role act
+    → IsOfBlocks setting role (act ∷ log_of role before)
+    → Lightens setting.layout role (λ buf. place_of buf before) (λ buf. load setting buf before)
+    (setting.layout.ports * setting.layout.buffers) act
+lightens_of setting before role (Take b) lawful allowed blocks =
+    (allowed.known, pool_load setting before b.0 allowed.in_pool)
 lightens_of setting before role (Push r (Buffer b parcel)) lawful allowed blocks =
     let kind : Kind = kind_of setting.layout role in
-    let light : Lighter setting.layout role (own_load setting role (log_of role before)) r b parcel = lighter_by_kind setting role kind (log_of role before) r b parcel (short_of setting.layout before role r b parcel allowed.suits) (is_kind setting role (Push r (Buffer b parcel) ∷ log_of role before) kind refl blocks) in
+    let light : Lighter setting.layout role (own_load setting role (log_of role before)) r b parcel =
+    lighter_by_kind setting role kind (log_of role before) r b parcel
+    (short_of setting.layout before role r b parcel allowed.suits)
+    (is_kind setting role (Push r (Buffer b parcel) ∷ log_of role before) kind refl blocks) in
     let had : HasLoad setting before role b.0 light.0 = own_load_is setting before lawful role b.0 light.0 light.1 in
     rw (had.holder, had.has) light.2
 lightens_of setting before role (Pop r (Buffer b parcel)) lawful allowed blocks =
-    let at : IsAt r before (Buffer b parcel) = first_of (IsAt r before) (content_of r before) (Buffer b parcel) allowed.first (content_at setting.layout before lawful r) in
-    let has : IsLoaded setting before (Buffer b parcel) = first_of (IsLoaded setting before) (content_of r before) (Buffer b parcel) allowed.first (content_loaded setting before lawful r) in
+    let at : IsAt r before (Buffer b parcel) =
+    first_of (IsAt r before) (content_of r before) (Buffer b parcel) allowed.first
+    (content_at setting.layout before lawful r) in
+    let has : IsLoaded setting before (Buffer b parcel) =
+    first_of (IsLoaded setting before) (content_of r before) (Buffer b parcel) allowed.first
+    (content_loaded setting before lawful r) in
     rw (at, has, allowed.own_end) (elim (popped_lighter setting.layout r parcel) [
       | inl light ↦ light
-      | inr mail ↦ absurd (no_mail_parcel setting role (kind_of setting.layout role) (log_of role before) mail.0 b parcel (subst (λ s. MayFollow setting role (kind_of setting.layout role) (log_of role before) (Pop s (Buffer b parcel))) mail.1 blocks.0))
+      | inr mail ↦
+          absurd (no_mail_parcel setting role (kind_of setting.layout role) (log_of role before) mail.0 b parcel (subst
+          (λ s. MayFollow setting role (kind_of setting.layout role) (log_of role before) (Pop s (Buffer b parcel)))
+          mail.1 blocks.0))
     ])
 lightens_of setting before role (Give b outcome parcel) lawful allowed blocks = tt
 lightens_of setting before role (Push r (Number m)) lawful allowed blocks = tt
@@ -210,8 +350,12 @@ lightens_of setting before role (Post x y) lawful allowed blocks = tt
 
 -- Waiting frames
 
-take_begins : (setting : Setting) (port : ℕ) (e : Entry) (phase : ReceivePhase) (b : BufId) → frame_after setting port (done_in phase) ≡ Some e → MayReceiveFor setting port e phase (Take b) → (begun_in (receive_after setting phase (Take b)) ≡ begun_in phase + 1) × (begun_in phase < length (of_port port setting.entries))
-take_begins setting port e (Sees done index seen) b found may = (refl, within_of (of_port port setting.entries) done e found)
+take_begins : (setting : Setting) (port : ℕ) (e : Entry) (phase : ReceivePhase) (b : BufId)
+    → frame_after setting port (done_in phase) ≡ Some e → MayReceiveFor setting port e phase (Take b)
+    → (begun_in (receive_after setting phase (Take b)) ≡ begun_in phase + 1)
+    × (begun_in phase < length (of_port port setting.entries))
+take_begins setting port e (Sees done index seen) b found may =
+    (refl, slice_get_within (of_port port setting.entries) done e found)
 take_begins setting port e (Between done) b found may = absurd may
 take_begins setting port e (Asks done k) b found may = absurd may
 take_begins setting port e (Seeks done k) b found may = absurd may
@@ -221,18 +365,31 @@ take_begins setting port e (Barred done buf ring) b found may = absurd may
 abbrev left_in : Setting → ℕ → ReceivePhase → ℕ
 left_in setting port phase = length (of_port port setting.entries) - begun_in phase
 
-falls_or_stays : (setting : Setting) (port : ℕ) (log : Log) (act : Act) → IsNumbered setting → MayReceive setting port log act → left_in setting port (receive_phase setting (act ∷ log)) + 0 ≤ left_in setting port (receive_phase setting log)
+falls_or_stays : (setting : Setting) (port : ℕ) (log : Log) (act : Act)
+    → IsNumbered setting → MayReceive setting port log act
+    → left_in setting port (receive_phase setting (act ∷ log)) + 0 ≤ left_in setting port (receive_phase setting log)
 falls_or_stays setting port log act numbered may =
-    elim (own_begins setting port log act (block_frame setting port log) numbered may) [ inl none ↦ omega (arith, none.0) | inr one ↦ omega (arith, one.0) ]
+    elim (own_begins setting port log act (block_frame setting port log) numbered may) [
+      | inl none ↦ omega (arith, none.0)
+      | inr one ↦ omega (arith, one.0)
+    ]
 
-own_waits : (setting : Setting) (port : ℕ) (log : Log) (act : Act) → IsNumbered setting → MayReceive setting port log act → left_in setting port (receive_phase setting (act ∷ log)) + takes act ≤ left_in setting port (receive_phase setting log)
+own_waits : (setting : Setting) (port : ℕ) (log : Log) (act : Act)
+    → IsNumbered setting → MayReceive setting port log act
+    → left_in setting port (receive_phase setting (act ∷ log)) + takes act
+    ≤ left_in setting port (receive_phase setting log)
 own_waits setting port log (Take b) numbered may =
     elim may [
       | inl mark ↦ absurd mark.1
-      | inr block ↦ let more : (begun_in (receive_after setting (receive_phase setting log) (Take b)) ≡ begun_in (receive_phase setting log) + 1) × (begun_in (receive_phase setting log) < length (of_port port setting.entries)) = take_begins setting port block.0 (receive_phase setting log) b block.1 block.2 in
+      | inr block ↦
+          let more : (begun_in (receive_after setting (receive_phase setting log) (Take b))
+          ≡ begun_in (receive_phase setting log) + 1)
+          × (begun_in (receive_phase setting log) < length (of_port port setting.entries))
+          = take_begins setting port block.0 (receive_phase setting log) b block.1 block.2 in
           omega (arith, more.0, more.1)
     ]
-own_waits setting port log (Give b outcome parcel) numbered may = falls_or_stays setting port log (Give b outcome parcel) numbered may
+own_waits setting port log (Give b outcome parcel) numbered may =
+    falls_or_stays setting port log (Give b outcome parcel) numbered may
 own_waits setting port log (Push r i) numbered may = falls_or_stays setting port log (Push r i) numbered may
 own_waits setting port log (Pop r i) numbered may = falls_or_stays setting port log (Pop r i) numbered may
 own_waits setting port log (Split a) numbered may = falls_or_stays setting port log (Split a) numbered may
@@ -242,11 +399,18 @@ own_waits setting port log (Empty a) numbered may = falls_or_stays setting port 
 own_waits setting port log (Look x y z) numbered may = falls_or_stays setting port log (Look x y z) numbered may
 own_waits setting port log (Post x y) numbered may = falls_or_stays setting port log (Post x y) numbered may
 
-no_take : (setting : Setting) (role : ℕ) (kind : Kind) (log : Log) (act : Act) → (kind ≡ Receives → ⊥) → MayFollow setting role kind log act → takes act ≡ 0
+no_take : (setting : Setting) (role : ℕ) (kind : Kind) (log : Log) (act : Act)
+    → (kind ≡ Receives → ⊥) → MayFollow setting role kind log act
+    → takes act ≡ 0
 no_take setting role kind log (Take b) other may =
     let fresh : FrameId = block_frame setting role log in
     let none : starts fresh fresh (Take b) ≡ 0 = other_starts setting role kind log (Take b) fresh fresh other may in
-    absurd (let one : 1 ≡ 0 = rw (eq-eqb role role refl, eq-eqb (done_in (receive_phase setting log) + 1) (done_in (receive_phase setting log) + 1) refl) at none in omega arith)
+    absurd (let one : 1 ≡ 0 =
+    rw (
+      eq-eqb role role refl,
+      eq-eqb (done_in (receive_phase setting log) + 1) (done_in (receive_phase setting log) + 1) refl,
+    ) at none in
+    omega arith)
 no_take setting role kind log (Give b outcome parcel) other may = refl
 no_take setting role kind log (Push r i) other may = refl
 no_take setting role kind log (Pop r i) other may = refl
@@ -257,29 +421,60 @@ no_take setting role kind log (Empty a) other may = refl
 no_take setting role kind log (Look x y z) other may = refl
 no_take setting role kind log (Post x y) other may = refl
 
-waiting_apart : (setting : Setting) (step : Step) (before : History) (k : ℕ) → (k ≡ step.role → ⊥) → waiting setting (step ∷ before) k ≡ waiting setting before k
+waiting_apart : (setting : Setting) (step : Step) (before : History) (k : ℕ) → (k ≡ step.role → ⊥)
+    → waiting setting (step ∷ before) k ≡ waiting setting before k
 waiting_apart setting step before k apart = rw (ne_eqb step.role k (λ e. apart (sym e))) refl
 
-waiting_step : (setting : Setting) (step : Step) (before : History) → IsNumbered setting → AllOfBlocks setting (step ∷ before) → sum_below (waiting setting (step ∷ before)) setting.layout.ports + takes step.act ≤ sum_below (waiting setting before) setting.layout.ports
+waiting_step : (setting : Setting) (step : Step) (before : History)
+    → IsNumbered setting → AllOfBlocks setting (step ∷ before)
+    → sum_below (waiting setting (step ∷ before)) setting.layout.ports + takes step.act
+    ≤ sum_below (waiting setting before) setting.layout.ports
 waiting_step setting step before numbered blocks =
-    let own : IsOfBlocks setting step.role (step.act ∷ log_of step.role before) = own_blocks setting step before blocks in
+    let own : IsOfBlocks setting step.role (step.act ∷ log_of step.role before) =
+    own_blocks setting step before blocks in
     elim (cases_Bool (nat_lt step.role setting.layout.ports)) [
-      | inl known ↦ let may : MayReceive setting step.role (log_of step.role before) step.act = subst (λ k. MayFollow setting step.role k (log_of step.role before) step.act) (kind_receives setting.layout step.role known) own.0 in
+      | inl known ↦
+          let may : MayReceive setting step.role (log_of step.role before) step.act =
+          subst (λ k. MayFollow setting step.role k (log_of step.role before) step.act)
+          (kind_receives setting.layout step.role known) own.0 in
           let less : step.role < setting.layout.ports = ltb-true step.role setting.layout.ports known in
-          let now : waiting setting (step ∷ before) step.role ≡ left_in setting step.role (receive_phase setting (step.act ∷ log_of step.role before)) = rw (eq-eqb step.role step.role refl) refl in
-          omega (arith, now, own_waits setting step.role (log_of step.role before) step.act numbered may, sum_change (waiting setting (step ∷ before)) (waiting setting before) setting.layout.ports step.role less (waiting_apart setting step before))
-      | inr unknown ↦ let none : takes step.act ≡ 0 = no_take setting step.role (kind_of setting.layout step.role) (log_of step.role before) step.act (kind_other setting.layout step.role unknown) own.0 in
+          let now : waiting setting (step ∷ before) step.role
+          ≡ left_in setting step.role (receive_phase setting (step.act ∷ log_of step.role before))
+          = rw (eq-eqb step.role step.role refl) refl in
+          omega (
+            arith,
+            now,
+            own_waits setting step.role (log_of step.role before) step.act numbered may,
+            sum_change (waiting setting (step ∷ before)) (waiting setting before) setting.layout.ports step.role less
+                (waiting_apart setting step before),
+          )
+      | inr unknown ↦
+          let none : takes step.act ≡ 0 =
+          no_take setting step.role (kind_of setting.layout step.role) (log_of step.role before) step.act
+          (kind_other setting.layout step.role unknown) own.0 in
           let past_ports : setting.layout.ports ≤ step.role = ltb-false step.role setting.layout.ports unknown in
-          omega (arith, none, sum_apart (waiting setting (step ∷ before)) (waiting setting before) setting.layout.ports step.role past_ports (waiting_apart setting step before))
+          omega (
+            arith,
+            none,
+            sum_apart (waiting setting (step ∷ before))
+                (waiting setting before) setting.layout.ports step.role past_ports (waiting_apart setting step before),
+          )
     ]
 
 -- no step raises the potential
-pub potential_step : (setting : Setting) (step : Step) (before : History) → IsNumbered setting → IsLawful setting.layout (step ∷ before) → AllOfBlocks setting (step ∷ before) → potential setting (step ∷ before) ≤ potential setting before
+pub potential_step : (setting : Setting) (step : Step) (before : History)
+    → IsNumbered setting → IsLawful setting.layout (step ∷ before) → AllOfBlocks setting (step ∷ before)
+    → potential setting (step ∷ before) ≤ potential setting before
 potential_step setting step before numbered lawful blocks =
-    let own : IsOfBlocks setting step.role (step.act ∷ log_of step.role before) = own_blocks setting step before blocks in
-    let facts : Lightens setting.layout step.role (λ buf. place_of buf before) (λ buf. load setting buf before) (setting.layout.ports * setting.layout.buffers) step.act = lightens_of setting before step.role step.act lawful.1 lawful.0.allowed own in
+    let own : IsOfBlocks setting step.role (step.act ∷ log_of step.role before) =
+    own_blocks setting step before blocks in
+    let facts : Lightens setting.layout step.role (λ buf. place_of buf before) (λ buf. load setting buf before)
+    (setting.layout.ports * setting.layout.buffers) step.act
+    = lightens_of setting before step.role step.act lawful.1 lawful.0.allowed own in
     omega (
       arith,
       waiting_step setting step before numbered blocks,
-      buffers_step setting.layout step.role (block_frame setting step.role (log_of step.role before)) step.act (λ buf. place_of buf before) (λ buf. load setting buf before) (setting.layout.ports * setting.layout.buffers) facts,
+      buffers_step setting.layout step.role (block_frame setting step.role (log_of step.role before)) step.act
+          (λ buf. place_of buf before) (λ buf. load setting buf before)
+          (setting.layout.ports * setting.layout.buffers) facts,
     )

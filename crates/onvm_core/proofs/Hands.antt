@@ -29,21 +29,26 @@ use Rattle.onvm_core.proofs.Loads.{own_load, own_load_after}
 
 abbrev pub HasTaken : ℕ → Option (ℕ × Load) → ReceivePhase → Type 0
 HasTaken port own (Took done buf) = own ≡ Some (buf, Fresh (record { port = record { 0 = port }; number = done + 1 }))
-HasTaken port own (Barred done buf ring) = own ≡ Some (buf, Fresh (record { port = record { 0 = port }; number = done + 1 }))
+HasTaken port own (Barred done buf ring) =
+    own ≡ Some (buf, Fresh (record { port = record { 0 = port }; number = done + 1 }))
 HasTaken port own (Between done) = Unit {0}
 HasTaken port own (Asks done k) = Unit {0}
 HasTaken port own (Seeks done k) = Unit {0}
 HasTaken port own (Sees done index seen) = Unit {0}
 
-asked_free : (setting : Setting) (port done k : ℕ) (told : Option Record) (own : Option (ℕ × Load)) → HasTaken port own (asked setting done k told)
-asked_free setting port done k None own = elim (cases_Bool (k + 1 == feeders setting)) [ inl met ↦ rw met tt | inr unmet ↦ rw unmet tt ]
+asked_free : (setting : Setting) (port done k : ℕ) (told : Option Record) (own : Option (ℕ × Load))
+    → HasTaken port own (asked setting done k told)
+asked_free setting port done k None own =
+    elim (cases_Bool (k + 1 == feeders setting)) [ inl met ↦ rw met tt | inr unmet ↦ rw unmet tt ]
 asked_free setting port done k (Some told) own = tt
 
-sought_free : (port done k seen : ℕ) (told : Option Record) (own : Option (ℕ × Load)) → HasTaken port own (sought done k seen told)
+sought_free : (port done k seen : ℕ) (told : Option Record) (own : Option (ℕ × Load))
+    → HasTaken port own (sought done k seen told)
 sought_free port done k seen None own = elim (cases_Bool (seen == 0)) [ inl met ↦ rw met tt | inr unmet ↦ rw unmet tt ]
 sought_free port done k seen (Some told) own = tt
 
-between_free : (setting : Setting) (port done : ℕ) (act : Act) (own : Option (ℕ × Load)) → HasTaken port own (receive_after setting (Between done) act)
+between_free : (setting : Setting) (port done : ℕ) (act : Act) (own : Option (ℕ × Load))
+    → HasTaken port own (receive_after setting (Between done) act)
 between_free setting port done (Look (PostWord f) seen told) own = asked_free setting port done 0 told own
 between_free setting port done (Look (PoolWord a b) seen told) own = tt
 between_free setting port done (Look (Cell a b) seen told) own = tt
@@ -58,8 +63,13 @@ between_free setting port done (Full a) own = tt
 between_free setting port done (Empty a) own = tt
 between_free setting port done (Post a b) own = tt
 
-receive_for : (setting : Setting) (port : ℕ) (e : Entry) (phase : ReceivePhase) (act : Act) (own : Option (ℕ × Load)) → HasTaken port own phase → MayReceiveFor setting port e phase act → HasTaken port (own_load_after (record { port = record { 0 = port }; number = done_in phase + 1 }) act own) (receive_after setting phase act)
-receive_for setting port e (Between done) act own h may = between_free setting port done act (own_load_after (record { port = record { 0 = port }; number = done + 1 }) act own)
+receive_for : (setting : Setting) (port : ℕ) (e : Entry) (phase : ReceivePhase) (act : Act) (own : Option (ℕ × Load))
+    → HasTaken port own phase → MayReceiveFor setting port e phase act
+    → HasTaken port (own_load_after (record { port = record { 0 = port }; number = done_in phase + 1 }) act own)
+    (receive_after setting phase act)
+receive_for setting port e (Between done) act own h may =
+    between_free setting port done act
+    (own_load_after (record { port = record { 0 = port }; number = done + 1 }) act own)
 receive_for setting port e (Asks done k) (Take b) own h may = tt
 receive_for setting port e (Asks done k) (Give b outcome parcel) own h may = tt
 receive_for setting port e (Asks done k) (Push r i) own h may = tt
@@ -111,7 +121,9 @@ receive_for setting port e (Barred done buf ring) (Empty a) own h may = absurd m
 receive_for setting port e (Barred done buf ring) (Look w v t) own h may = absurd may
 receive_for setting port e (Barred done buf ring) (Post a b) own h may = absurd may
 
-receive_mark : (setting : Setting) (port : ℕ) (phase : ReceivePhase) (act : Act) (own after : Option (ℕ × Load)) → IsBetween phase → HasTaken port after (receive_after setting phase act)
+receive_mark : (setting : Setting) (port : ℕ) (phase : ReceivePhase) (act : Act) (own after : Option (ℕ × Load))
+    → IsBetween phase
+    → HasTaken port after (receive_after setting phase act)
 receive_mark setting port (Between done) act own after h = between_free setting port done act after
 receive_mark setting port (Asks done k) act own after h = absurd h
 receive_mark setting port (Seeks done k) act own after h = absurd h
@@ -124,16 +136,24 @@ abbrev pub IsKind : Setting → ℕ → Kind → Log → Type 0
 IsKind setting role kind [] = Unit {0}
 IsKind setting role kind (act ∷ before) = MayFollow setting role kind before act × IsKind setting role kind before
 
-pub is_kind : (setting : Setting) (role : ℕ) (log : Log) (kind : Kind) → kind_of setting.layout role ≡ kind → IsOfBlocks setting role log → IsKind setting role kind log
+pub is_kind : (setting : Setting) (role : ℕ) (log : Log) (kind : Kind)
+    → kind_of setting.layout role ≡ kind → IsOfBlocks setting role log
+    → IsKind setting role kind log
 is_kind setting role [] kind e h = tt
-is_kind setting role (act ∷ before) kind e h = (subst (λ k. MayFollow setting role k before act) e h.0, is_kind setting role before kind e h.1)
+is_kind setting role (act ∷ before) kind e h =
+    (subst (λ k. MayFollow setting role k before act) e h.0, is_kind setting role before kind e h.1)
 
-pub receive_has : (setting : Setting) (port : ℕ) (log : Log) → IsKind setting port Receives log → HasTaken port (own_load setting port log) (receive_phase setting log)
+pub receive_has : (setting : Setting) (port : ℕ) (log : Log) → IsKind setting port Receives log
+    → HasTaken port (own_load setting port log) (receive_phase setting log)
 receive_has setting port [] h = tt
 receive_has setting port (act ∷ before) h =
     elim h.0 [
-      | inl mark ↦ receive_mark setting port (receive_phase setting before) act (own_load setting port before) (own_load setting port (act ∷ before)) mark.0
-      | inr block ↦ receive_for setting port block.0 (receive_phase setting before) act (own_load setting port before) (receive_has setting port before h.1) block.2
+      | inl mark ↦
+          receive_mark setting port (receive_phase setting before) act (own_load setting port before)
+          (own_load setting port (act ∷ before)) mark.0
+      | inr block ↦
+          receive_for setting port block.0 (receive_phase setting before) act (own_load setting port before)
+          (receive_has setting port before h.1) block.2
     ]
 
 -- Cores
@@ -142,7 +162,9 @@ abbrev pub HasHand : Option (ℕ × Load) → Option Hand → Type 0
 HasHand own None = Unit {0}
 HasHand own (Some hand) = own ≡ Some (hand.buf, Loaded hand.parcel)
 
-core_step : (setting : Setting) (role : ℕ) (before : Log) (act : Act) (fresh : FrameId) (own : Option (ℕ × Load)) (hand : Option Hand) → MayHandle setting role before act → HasHand own hand → HasHand (own_load_after fresh act own) (handles act hand)
+core_step : (setting : Setting) (role : ℕ) (before : Log) (act : Act) (fresh : FrameId) (own : Option (ℕ × Load))
+    (hand : Option Hand) → MayHandle setting role before act → HasHand own hand
+    → HasHand (own_load_after fresh act own) (handles act hand)
 core_step setting role before (Pop (Lane f p) (Buffer b parcel)) fresh own hand may h = refl
 core_step setting role before (Pop (Lane f p) (Number n)) fresh own hand may h = absurd may
 core_step setting role before (Pop (Output f) item) fresh own hand may h = absurd may
@@ -160,9 +182,12 @@ core_step setting role before (Split a) fresh own hand may h = absurd may
 core_step setting role before (Join a) fresh own hand may h = absurd may
 core_step setting role before (Post a b) fresh own hand may h = absurd may
 
-pub core_has : (setting : Setting) (role : ℕ) (log : Log) → IsKind setting role Handles log → HasHand (own_load setting role log) (core_hand log)
+pub core_has : (setting : Setting) (role : ℕ) (log : Log) → IsKind setting role Handles log
+    → HasHand (own_load setting role log) (core_hand log)
 core_has setting role [] h = tt
-core_has setting role (act ∷ before) h = core_step setting role before act (block_frame setting role before) (own_load setting role before) (core_hand before) h.0 (core_has setting role before h.1)
+core_has setting role (act ∷ before) h =
+    core_step setting role before act (block_frame setting role before) (own_load setting role before)
+    (core_hand before) h.0 (core_has setting role before h.1)
 
 -- Transmit roles
 
@@ -171,7 +196,9 @@ HasSend own Free = Unit {0}
 HasSend own (Sending hand) = own ≡ Some (hand.buf, Loaded hand.parcel)
 HasSend own (TurnsBack hand ring) = own ≡ Some (hand.buf, Loaded hand.parcel)
 
-send_step : (setting : Setting) (feeder : ℕ) (phase : SendPhase) (act : Act) (fresh : FrameId) (own : Option (ℕ × Load)) → MaySend setting feeder phase act → HasSend own phase → HasSend (own_load_after fresh act own) (send_after phase act)
+send_step : (setting : Setting) (feeder : ℕ) (phase : SendPhase) (act : Act) (fresh : FrameId) (own : Option (ℕ × Load))
+    → MaySend setting feeder phase act → HasSend own phase
+    → HasSend (own_load_after fresh act own) (send_after phase act)
 send_step setting feeder Free (Pop (Output f) (Buffer b parcel)) fresh own may h = refl
 send_step setting feeder Free (Pop (Output f) (Number n)) fresh own may h = tt
 send_step setting feeder Free (Pop (Lane f p) item) fresh own may h = tt
@@ -206,9 +233,12 @@ send_step setting feeder (TurnsBack hand ring) (Empty a) fresh own may h = absur
 send_step setting feeder (TurnsBack hand ring) (Look w v t) fresh own may h = absurd may
 send_step setting feeder (TurnsBack hand ring) (Post a b) fresh own may h = absurd may
 
-pub send_has : (setting : Setting) (role : ℕ) (log : Log) → IsKind setting role Sends log → HasSend (own_load setting role log) (send_phase log)
+pub send_has : (setting : Setting) (role : ℕ) (log : Log) → IsKind setting role Sends log
+    → HasSend (own_load setting role log) (send_phase log)
 send_has setting role [] h = tt
-send_has setting role (act ∷ before) h = send_step setting role (send_phase before) act (block_frame setting role before) (own_load setting role before) h.0 (send_has setting role before h.1)
+send_has setting role (act ∷ before) h =
+    send_step setting role (send_phase before) act (block_frame setting role before) (own_load setting role before) h.0
+    (send_has setting role before h.1)
 
 -- What a role pushes or gives is what it has
 
@@ -221,14 +251,22 @@ LetsGo own (Give b outcome parcel) = Carries own b.0 parcel.frame
 LetsGo own (Push ring (Buffer b parcel)) = Carries own b.0 parcel.frame
 LetsGo own _ = Unit {0}
 
-fresh_carries : (setting : Setting) (port done buf : ℕ) (own : Option (ℕ × Load)) (e : Entry) (b : BufId) (parcel : Parcel) → IsNumbered setting → frame_after setting port done ≡ Some e → own ≡ Some (buf, Fresh (record { port = record { 0 = port }; number = done + 1 })) → b.0 ≡ buf → parcel ≡ entry_parcel e → Carries own b.0 parcel.frame
+fresh_carries : (setting : Setting) (port done buf : ℕ) (own : Option (ℕ × Load)) (e : Entry) (b : BufId)
+    (parcel : Parcel)
+    → IsNumbered setting → frame_after setting port done ≡ Some e
+    → own ≡ Some (buf, Fresh (record { port = record { 0 = port }; number = done + 1 })) → b.0 ≡ buf
+    → parcel ≡ entry_parcel e
+    → Carries own b.0 parcel.frame
 fresh_carries setting port done buf own e b parcel numbered found h one two = (
   Fresh (record { port = record { 0 = port }; number = done + 1 }),
   h ∙ ap (λ (n : ℕ). Some (n, Fresh (record { port = record { 0 = port }; number = done + 1 }))) (sym one),
   sym (numbered port done e found) ∙ ap (λ (p : Parcel). p.frame) (sym two),
 )
 
-receive_lets : (setting : Setting) (port : ℕ) (e : Entry) (phase : ReceivePhase) (act : Act) (own : Option (ℕ × Load)) → IsNumbered setting → frame_after setting port (done_in phase) ≡ Some e → HasTaken port own phase → MayReceiveFor setting port e phase act → LetsGo own act
+receive_lets : (setting : Setting) (port : ℕ) (e : Entry) (phase : ReceivePhase) (act : Act) (own : Option (ℕ × Load))
+    → IsNumbered setting → frame_after setting port (done_in phase) ≡ Some e → HasTaken port own phase
+    → MayReceiveFor setting port e phase act
+    → LetsGo own act
 receive_lets setting port e (Between done) (Take b) own numbered found h may = tt
 receive_lets setting port e (Between done) (Give b outcome parcel) own numbered found h may = absurd may
 receive_lets setting port e (Between done) (Push r (Buffer b parcel)) own numbered found h may = absurd may
@@ -274,12 +312,14 @@ receive_lets setting port e (Sees done index seen) (Empty a) own numbered found 
 receive_lets setting port e (Sees done index seen) (Look w v t) own numbered found h may = tt
 receive_lets setting port e (Sees done index seen) (Post a b) own numbered found h may = tt
 receive_lets setting port e (Took done buf) (Take b) own numbered found h may = tt
-receive_lets setting port e (Took done buf) (Give b (Sent q) parcel) own numbered found h may = fresh_carries setting port done buf own e b parcel numbered found h may.0 may.1
+receive_lets setting port e (Took done buf) (Give b (Sent q) parcel) own numbered found h may =
+    fresh_carries setting port done buf own e b parcel numbered found h may.0 may.1
 receive_lets setting port e (Took done buf) (Give b (Dropped f w) parcel) own numbered found h may = absurd may
 receive_lets setting port e (Took done buf) (Give b (Throttled a c d) parcel) own numbered found h may = absurd may
 receive_lets setting port e (Took done buf) (Give b (RingFull r) parcel) own numbered found h may = absurd may
 receive_lets setting port e (Took done buf) (Give b (PoolEmpty) parcel) own numbered found h may = absurd may
-receive_lets setting port e (Took done buf) (Push r (Buffer b parcel)) own numbered found h may = fresh_carries setting port done buf own e b parcel numbered found h may.0 may.1
+receive_lets setting port e (Took done buf) (Push r (Buffer b parcel)) own numbered found h may =
+    fresh_carries setting port done buf own e b parcel numbered found h may.0 may.1
 receive_lets setting port e (Took done buf) (Push r (Number n)) own numbered found h may = tt
 receive_lets setting port e (Took done buf) (Pop r i) own numbered found h may = tt
 receive_lets setting port e (Took done buf) (Split a) own numbered found h may = tt
@@ -289,7 +329,8 @@ receive_lets setting port e (Took done buf) (Empty a) own numbered found h may =
 receive_lets setting port e (Took done buf) (Look w v t) own numbered found h may = tt
 receive_lets setting port e (Took done buf) (Post a b) own numbered found h may = tt
 receive_lets setting port e (Barred done buf ring) (Take b) own numbered found h may = tt
-receive_lets setting port e (Barred done buf ring) (Give b outcome parcel) own numbered found h may = fresh_carries setting port done buf own e b parcel numbered found h may.0 may.2
+receive_lets setting port e (Barred done buf ring) (Give b outcome parcel) own numbered found h may =
+    fresh_carries setting port done buf own e b parcel numbered found h may.0 may.2
 receive_lets setting port e (Barred done buf ring) (Push r (Buffer b parcel)) own numbered found h may = absurd may
 receive_lets setting port e (Barred done buf ring) (Push r (Number n)) own numbered found h may = tt
 receive_lets setting port e (Barred done buf ring) (Pop r i) own numbered found h may = tt
@@ -300,7 +341,8 @@ receive_lets setting port e (Barred done buf ring) (Empty a) own numbered found 
 receive_lets setting port e (Barred done buf ring) (Look w v t) own numbered found h may = tt
 receive_lets setting port e (Barred done buf ring) (Post a b) own numbered found h may = tt
 
-mark_lets : (setting : Setting) (feeder : ℕ) (act : Act) (own : Option (ℕ × Load)) → IsMark setting feeder act → LetsGo own act
+mark_lets : (setting : Setting) (feeder : ℕ) (act : Act) (own : Option (ℕ × Load)) → IsMark setting feeder act
+    → LetsGo own act
 mark_lets setting feeder (Take b) own may = tt
 mark_lets setting feeder (Give b outcome parcel) own may = absurd may
 mark_lets setting feeder (Push r (Buffer b parcel)) own may = absurd may
@@ -313,12 +355,18 @@ mark_lets setting feeder (Empty a) own may = tt
 mark_lets setting feeder (Look w v t) own may = tt
 mark_lets setting feeder (Post a b) own may = tt
 
-loaded_carries : (own : Option (ℕ × Load)) (hand : Hand) (b : BufId) (frame : FrameId) → own ≡ Some (hand.buf, Loaded hand.parcel) → hand.buf ≡ b.0 → hand.parcel.frame ≡ frame → Carries own b.0 frame
-loaded_carries own hand b frame h one two = (Loaded hand.parcel, h ∙ ap (λ (n : ℕ). Some (n, Loaded hand.parcel)) one, two)
+loaded_carries : (own : Option (ℕ × Load)) (hand : Hand) (b : BufId) (frame : FrameId)
+    → own ≡ Some (hand.buf, Loaded hand.parcel) → hand.buf ≡ b.0 → hand.parcel.frame ≡ frame
+    → Carries own b.0 frame
+loaded_carries own hand b frame h one two =
+    (Loaded hand.parcel, h ∙ ap (λ (n : ℕ). Some (n, Loaded hand.parcel)) one, two)
 
-core_lets : (setting : Setting) (role : ℕ) (before : Log) (act : Act) (own : Option (ℕ × Load)) → HasHand own (core_hand before) → MayHandle setting role before act → LetsGo own act
+core_lets : (setting : Setting) (role : ℕ) (before : Log) (act : Act) (own : Option (ℕ × Load))
+    → HasHand own (core_hand before) → MayHandle setting role before act
+    → LetsGo own act
 core_lets setting role before (Push (Output f) (Buffer b parcel)) own h may =
-    loaded_carries own may.hand b parcel.frame (subst (HasHand own) may.held h) may.same (sym (ap (λ (p : Parcel). p.frame) may.handled.same))
+    loaded_carries own may.hand b parcel.frame (subst (HasHand own) may.held h) may.same
+    (sym (ap (λ (p : Parcel). p.frame) may.handled.same))
 core_lets setting role before (Push (Mail f) (Buffer b parcel)) own h may = absurd may
 core_lets setting role before (Push (Lane f p) (Buffer b parcel)) own h may = absurd may
 core_lets setting role before (Take b) own h may = tt
@@ -332,7 +380,9 @@ core_lets setting role before (Empty a) own h may = tt
 core_lets setting role before (Look w v t) own h may = tt
 core_lets setting role before (Post a b) own h may = tt
 
-send_lets : (setting : Setting) (feeder : ℕ) (phase : SendPhase) (act : Act) (own : Option (ℕ × Load)) → HasSend own phase → MaySend setting feeder phase act → LetsGo own act
+send_lets : (setting : Setting) (feeder : ℕ) (phase : SendPhase) (act : Act) (own : Option (ℕ × Load))
+    → HasSend own phase → MaySend setting feeder phase act
+    → LetsGo own act
 send_lets setting feeder Free (Take b) own h may = tt
 send_lets setting feeder Free (Give b outcome parcel) own h may = absurd may
 send_lets setting feeder Free (Push r (Buffer b parcel)) own h may = absurd may
@@ -345,12 +395,15 @@ send_lets setting feeder Free (Empty a) own h may = tt
 send_lets setting feeder Free (Look w v t) own h may = tt
 send_lets setting feeder Free (Post a b) own h may = tt
 send_lets setting feeder (Sending hand) (Take b) own h may = tt
-send_lets setting feeder (Sending hand) (Give b (Sent q) parcel) own h may = loaded_carries own hand b parcel.frame h (sym may.0) (ap (λ (p : Parcel). p.frame) (sym may.2))
-send_lets setting feeder (Sending hand) (Give b (Dropped f w) parcel) own h may = loaded_carries own hand b parcel.frame h (sym may.0) (ap (λ (p : Parcel). p.frame) (sym may.3))
+send_lets setting feeder (Sending hand) (Give b (Sent q) parcel) own h may =
+    loaded_carries own hand b parcel.frame h (sym may.0) (ap (λ (p : Parcel). p.frame) (sym may.2))
+send_lets setting feeder (Sending hand) (Give b (Dropped f w) parcel) own h may =
+    loaded_carries own hand b parcel.frame h (sym may.0) (ap (λ (p : Parcel). p.frame) (sym may.3))
 send_lets setting feeder (Sending hand) (Give b (Throttled a c d) parcel) own h may = absurd may
 send_lets setting feeder (Sending hand) (Give b (RingFull r) parcel) own h may = absurd may
 send_lets setting feeder (Sending hand) (Give b (PoolEmpty) parcel) own h may = absurd may
-send_lets setting feeder (Sending hand) (Push r (Buffer b parcel)) own h may = loaded_carries own hand b parcel.frame h (sym may.0) (ap (λ (p : Parcel). p.frame) (sym may.1.2))
+send_lets setting feeder (Sending hand) (Push r (Buffer b parcel)) own h may =
+    loaded_carries own hand b parcel.frame h (sym may.0) (ap (λ (p : Parcel). p.frame) (sym may.1.2))
 send_lets setting feeder (Sending hand) (Push r (Number n)) own h may = tt
 send_lets setting feeder (Sending hand) (Pop r i) own h may = tt
 send_lets setting feeder (Sending hand) (Split a) own h may = tt
@@ -360,7 +413,8 @@ send_lets setting feeder (Sending hand) (Empty a) own h may = tt
 send_lets setting feeder (Sending hand) (Look w v t) own h may = tt
 send_lets setting feeder (Sending hand) (Post a b) own h may = tt
 send_lets setting feeder (TurnsBack hand ring) (Take b) own h may = tt
-send_lets setting feeder (TurnsBack hand ring) (Give b outcome parcel) own h may = loaded_carries own hand b parcel.frame h (sym may.0) (ap (λ (p : Parcel). p.frame) (sym may.2.2))
+send_lets setting feeder (TurnsBack hand ring) (Give b outcome parcel) own h may =
+    loaded_carries own hand b parcel.frame h (sym may.0) (ap (λ (p : Parcel). p.frame) (sym may.2.2))
 send_lets setting feeder (TurnsBack hand ring) (Push r (Buffer b parcel)) own h may = absurd may
 send_lets setting feeder (TurnsBack hand ring) (Push r (Number n)) own h may = tt
 send_lets setting feeder (TurnsBack hand ring) (Pop r i) own h may = tt
@@ -397,17 +451,27 @@ lead_lets (Empty a) own may = tt
 lead_lets (Look w v t) own may = tt
 lead_lets (Post a b) own may = tt
 
-by_kind : (setting : Setting) (role : ℕ) (kind : Kind) (log : Log) (act : Act) → IsNumbered setting → IsKind setting role kind (act ∷ log) → LetsGo (own_load setting role log) act
+by_kind : (setting : Setting) (role : ℕ) (kind : Kind) (log : Log) (act : Act)
+    → IsNumbered setting → IsKind setting role kind (act ∷ log)
+    → LetsGo (own_load setting role log) act
 by_kind setting role Receives log act numbered h =
     elim h.0 [
       | inl mark ↦ mark_lets setting role act (own_load setting role log) mark.1
-      | inr block ↦ receive_lets setting role block.0 (receive_phase setting log) act (own_load setting role log) numbered block.1 (receive_has setting role log h.1) block.2
+      | inr block ↦
+          receive_lets setting role block.0 (receive_phase setting log) act (own_load setting role log) numbered block.1
+          (receive_has setting role log h.1) block.2
     ]
-by_kind setting role Sends log act numbered h = send_lets setting role (send_phase log) act (own_load setting role log) (send_has setting role log h.1) h.0
-by_kind setting role Handles log act numbered h = core_lets setting role log act (own_load setting role log) (core_has setting role log h.1) h.0
+by_kind setting role Sends log act numbered h =
+    send_lets setting role (send_phase log) act (own_load setting role log) (send_has setting role log h.1) h.0
+by_kind setting role Handles log act numbered h =
+    core_lets setting role log act (own_load setting role log) (core_has setting role log h.1) h.0
 by_kind setting role Ticks log act numbered h = tick_lets setting act (own_load setting role log) h.0
 by_kind setting role Leads log act numbered h = lead_lets act (own_load setting role log) h.0
 
 -- whatever a role's log says of the act that comes next, it lets go what it has
-pub lets_go : (setting : Setting) (role : ℕ) (log : Log) (act : Act) → IsNumbered setting → IsOfBlocks setting role (act ∷ log) → LetsGo (own_load setting role log) act
-lets_go setting role log act numbered h = by_kind setting role (kind_of setting.layout role) log act numbered (is_kind setting role (act ∷ log) (kind_of setting.layout role) refl h)
+pub lets_go : (setting : Setting) (role : ℕ) (log : Log) (act : Act)
+    → IsNumbered setting → IsOfBlocks setting role (act ∷ log)
+    → LetsGo (own_load setting role log) act
+lets_go setting role log act numbered h =
+    by_kind setting role (kind_of setting.layout role) log act numbered
+    (is_kind setting role (act ∷ log) (kind_of setting.layout role) refl h)

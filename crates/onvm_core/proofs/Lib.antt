@@ -1,4 +1,5 @@
 pub mod Balance
+pub mod Begun
 pub mod Contents
 pub mod Cores
 pub mod Counted
@@ -9,7 +10,9 @@ pub mod Falls
 pub mod Gathered
 pub mod Hands
 pub mod Held
+pub mod HeldSteps
 pub mod Holders
+pub mod Lists
 pub mod Loads
 pub mod Logged
 pub mod Marked

@@ -28,7 +28,12 @@ none_below (suc n) buf le =
     rw (apart, none_below n buf (omega arith)) refl
 
 absurd_or : (n buf : ℕ) → (n ≡ buf → ⊥) → buf < suc n → buf < n
-absurd_or n buf apart lt = elim (cases_order buf n) [ inl e ↦ absurd (apart (sym e)) | inr (inl less) ↦ less | inr (inr more) ↦ absurd (omega arith) ]
+absurd_or n buf apart lt =
+    elim (cases_order buf n) [
+      | inl e ↦ absurd (apart (sym e))
+      | inr (inl less) ↦ less
+      | inr (inr more) ↦ absurd (omega arith)
+    ]
 
 once_below : (n buf : ℕ) → buf < n → times buf (all_below n) ≡ 1
 once_below zero buf lt = absurd (omega arith)
@@ -58,7 +63,8 @@ times-without b buf (x ∷ xs) =
       ]
     ]
 
-pub how_many-append : {A : Type 0} (p : A → Bool) (xs ys : List A) → how_many p (xs ++ ys) ≡ how_many p xs + how_many p ys
+pub how_many-append : {A : Type 0} (p : A → Bool) (xs ys : List A)
+    → how_many p (xs ++ ys) ≡ how_many p xs + how_many p ys
 how_many-append p [] ys = sym (zero-add (how_many p ys))
 how_many-append p (x ∷ xs) ys = omega (arith, how_many-append p xs ys)
 
@@ -83,13 +89,17 @@ source role (Take b) = Pool
 source role (Pop ring item) = Ring ring
 source role _ = Role role
 
-suits_holder : (layout : Layout) (past : History) (role : ℕ) (ring : RingId) (b : BufId) (parcel : Parcel) → Suits layout past role ring (Buffer b parcel) → place_of b.0 past ≡ Role role
+pub suits_holder : (layout : Layout) (past : History) (role : ℕ) (ring : RingId) (b : BufId) (parcel : Parcel)
+    → Suits layout past role ring (Buffer b parcel)
+    → place_of b.0 past ≡ Role role
 suits_holder layout past role (Lane f feeder) b parcel suits = suits.0.holder
 suits_holder layout past role (Output f) b parcel suits = suits.0.holder
 suits_holder layout past role (Mail f) b parcel suits = absurd suits
 
 -- the first of a content is counted there
-first_counts : (buf : ℕ) (items : List Item) (b : BufId) (parcel : Parcel) → slice_get items 0 ≡ Some (Buffer b parcel) → (b.0 == buf) ≡ true → 1 ≤ how_many (is_buffer buf) items
+first_counts : (buf : ℕ) (items : List Item) (b : BufId) (parcel : Parcel)
+    → slice_get items 0 ≡ Some (Buffer b parcel) → (b.0 == buf) ≡ true
+    → 1 ≤ how_many (is_buffer buf) items
 first_counts buf [] b parcel e hit = absurd (cc)
 first_counts buf (x ∷ xs) b parcel e hit =
     let same : x ≡ Buffer b parcel = cc in
@@ -98,7 +108,10 @@ first_counts buf (x ∷ xs) b parcel e hit =
 abbrev pub Moves : ℕ → ℕ → Act → Place → Type 0
 Moves buf role act was = (there : Place) → puts buf role act ≡ Some there → was ≡ source role act
 
-origin : (layout : Layout) (before : History) (buf role : ℕ) (act : Act) → ((ring : RingId) → how_many (is_buffer buf) (content_of ring before) ≡ once_at (Ring ring) before buf) → AllowsAct layout before role act → Moves buf role act (place_of buf before)
+origin : (layout : Layout) (before : History) (buf role : ℕ) (act : Act)
+    → ((ring : RingId) → how_many (is_buffer buf) (content_of ring before) ≡ once_at (Ring ring) before buf)
+    → AllowsAct layout before role act
+    → Moves buf role act (place_of buf before)
 origin layout before buf role (Take b) rings allowed there e =
     elim (cases_Bool (b.0 == buf)) [
       | inl hit ↦ subst (λ k. place_of k before ≡ Pool) (eqb-true b.0 buf hit) allowed.in_pool
@@ -111,14 +124,19 @@ origin layout before buf role (Give b outcome parcel) rings allowed there e =
     ]
 origin layout before buf role (Push ring (Buffer b parcel)) rings allowed there e =
     elim (cases_Bool (b.0 == buf)) [
-      | inl hit ↦ subst (λ k. place_of k before ≡ Role role) (eqb-true b.0 buf hit) (suits_holder layout before role ring b parcel allowed.suits)
+      | inl hit ↦
+          subst (λ k. place_of k before ≡ Role role) (eqb-true b.0 buf hit)
+          (suits_holder layout before role ring b parcel allowed.suits)
       | inr miss ↦ absurd (let gone : None ≡ Some there = rw miss at e in cc)
     ]
 origin layout before buf role (Push ring (Number n)) rings allowed there e = absurd (cc)
 origin layout before buf role (Pop ring (Buffer b parcel)) rings allowed there e =
     elim (cases_Bool (b.0 == buf)) [
-      | inl hit ↦ let some : 1 ≤ how_many (is_buffer buf) (content_of ring before) = first_counts buf (content_of ring before) b parcel allowed.first hit in
-          same_place_is (place_of buf before) (Ring ring) (some_once (same_place (place_of buf before) (Ring ring)) (omega (arith, some, rings ring)))
+      | inl hit ↦
+          let some : 1 ≤ how_many (is_buffer buf) (content_of ring before) =
+          first_counts buf (content_of ring before) b parcel allowed.first hit in
+          same_place_is (place_of buf before) (Ring ring)
+          (some_once (same_place (place_of buf before) (Ring ring)) (omega (arith, some, rings ring)))
       | inr miss ↦ absurd (let gone : None ≡ Some there = rw miss at e in cc)
     ]
 origin layout before buf role (Pop ring (Number n)) rings allowed there e = absurd (cc)
@@ -129,9 +147,14 @@ origin layout before buf role (Empty a) rings allowed there e = absurd (cc)
 origin layout before buf role (Look a b c) rings allowed there e = absurd (cc)
 origin layout before buf role (Post a b) rings allowed there e = absurd (cc)
 
-pool_step : (buf role : ℕ) (act : Act) (bufs : List ℕ) (was : Place) → Moves buf role act was → times buf bufs ≡ one_if (same_place was Pool) → times buf (pool_after act bufs) ≡ one_if (same_place (unwrap_or (puts buf role act) was) Pool)
+pool_step : (buf role : ℕ) (act : Act) (bufs : List ℕ) (was : Place)
+    → Moves buf role act was → times buf bufs ≡ one_if (same_place was Pool)
+    → times buf (pool_after act bufs) ≡ one_if (same_place (unwrap_or (puts buf role act) was) Pool)
 pool_step buf role (Take b) bufs was moves e =
-    elim (cases_Bool (b.0 == buf)) [ inl hit ↦ rw (times-without b.0 buf bufs, hit) refl | inr miss ↦ rw (times-without b.0 buf bufs, miss) e ]
+    elim (cases_Bool (b.0 == buf)) [
+      | inl hit ↦ rw (times-without b.0 buf bufs, hit) refl
+      | inr miss ↦ rw (times-without b.0 buf bufs, miss) e
+    ]
 pool_step buf role (Give b outcome parcel) bufs was moves e =
     elim (cases_Bool (b.0 == buf)) [
       | inl hit ↦ let held_by : was ≡ Role role = moves Pool (rw hit refl) in
@@ -160,7 +183,9 @@ pool_step buf role (Look a b c) bufs was moves e = e
 pool_step buf role (Post a b) bufs was moves e = e
 
 -- a ring gains the buffer where it is pushed, and loses it where it is popped
-ring_balance : (buf role : ℕ) (ring : RingId) (act : Act) (was : Place) → Moves buf role act was → one_if (same_place (unwrap_or (puts buf role act) was) (Ring ring)) + how_many (is_buffer buf) (pops ring act) ≡ one_if (same_place was (Ring ring)) + how_many (is_buffer buf) (pushes ring act)
+ring_balance : (buf role : ℕ) (ring : RingId) (act : Act) (was : Place) → Moves buf role act was
+    → one_if (same_place (unwrap_or (puts buf role act) was) (Ring ring)) + how_many (is_buffer buf) (pops ring act)
+    ≡ one_if (same_place was (Ring ring)) + how_many (is_buffer buf) (pushes ring act)
 ring_balance buf role ring (Take b) was moves =
     elim (cases_Bool (b.0 == buf)) [
       | inl hit ↦ let stood : was ≡ Pool = moves (Role role) (rw hit refl) in rw (hit, stood) refl
@@ -174,16 +199,30 @@ ring_balance buf role ring (Give b outcome parcel) was moves =
 ring_balance buf role ring (Push r (Buffer b parcel)) was moves =
     elim (cases_Bool (b.0 == buf)) [
       | inl hit ↦ let stood : was ≡ Role role = moves (Ring r) (rw hit refl) in
-          elim (cases_Bool (same_ring r ring)) [ inl met ↦ rw (hit, stood, met, hit) refl | inr unmet ↦ rw (hit, stood, unmet) refl ]
-      | inr miss ↦ elim (cases_Bool (same_ring r ring)) [ inl met ↦ rw (miss, met, miss) refl | inr unmet ↦ rw (miss, unmet) refl ]
+          elim (cases_Bool (same_ring r ring)) [
+            | inl met ↦ rw (hit, stood, met, hit) refl
+            | inr unmet ↦ rw (hit, stood, unmet) refl
+          ]
+      | inr miss ↦
+          elim (cases_Bool (same_ring r ring)) [
+            | inl met ↦ rw (miss, met, miss) refl
+            | inr unmet ↦ rw (miss, unmet) refl
+          ]
     ]
 ring_balance buf role ring (Push r (Number n)) was moves =
     elim (cases_Bool (same_ring r ring)) [ inl met ↦ rw met refl | inr unmet ↦ rw unmet refl ]
 ring_balance buf role ring (Pop r (Buffer b parcel)) was moves =
     elim (cases_Bool (b.0 == buf)) [
       | inl hit ↦ let stood : was ≡ Ring r = moves (Role role) (rw hit refl) in
-          elim (cases_Bool (same_ring r ring)) [ inl met ↦ rw (hit, stood, met, hit) refl | inr unmet ↦ rw (hit, stood, unmet) refl ]
-      | inr miss ↦ elim (cases_Bool (same_ring r ring)) [ inl met ↦ rw (miss, met, miss) refl | inr unmet ↦ rw (miss, unmet) refl ]
+          elim (cases_Bool (same_ring r ring)) [
+            | inl met ↦ rw (hit, stood, met, hit) refl
+            | inr unmet ↦ rw (hit, stood, unmet) refl
+          ]
+      | inr miss ↦
+          elim (cases_Bool (same_ring r ring)) [
+            | inl met ↦ rw (miss, met, miss) refl
+            | inr unmet ↦ rw (miss, unmet) refl
+          ]
     ]
 ring_balance buf role ring (Pop r (Number n)) was moves =
     elim (cases_Bool (same_ring r ring)) [ inl met ↦ rw met refl | inr unmet ↦ rw unmet refl ]
@@ -194,16 +233,26 @@ ring_balance buf role ring (Empty a) was moves = refl
 ring_balance buf role ring (Look a b c) was moves = refl
 ring_balance buf role ring (Post a b) was moves = refl
 
-content_counts : (layout : Layout) (buf : ℕ) (ring : RingId) (step : Step) (before : History) → IsLawful layout (step ∷ before) → how_many (is_buffer buf) (content_of ring (step ∷ before)) + how_many (is_buffer buf) (pops ring step.act) ≡ how_many (is_buffer buf) (content_of ring before) + how_many (is_buffer buf) (pushes ring step.act)
+content_counts : (layout : Layout) (buf : ℕ) (ring : RingId) (step : Step) (before : History)
+    → IsLawful layout (step ∷ before)
+    → how_many (is_buffer buf) (content_of ring (step ∷ before)) + how_many (is_buffer buf) (pops ring step.act)
+    ≡ how_many (is_buffer buf) (content_of ring before) + how_many (is_buffer buf) (pushes ring step.act)
 content_counts layout buf ring step before lawful =
-    let split : pops ring step.act ++ content_of ring (step ∷ before) ≡ content_of ring before ++ pushes ring step.act = content_moves layout ring step before lawful in
+    let split : pops ring step.act ++ content_of ring (step ∷ before) ≡ content_of ring before ++ pushes ring step.act
+    = content_moves layout ring step before lawful in
     let test : Item → Bool = is_buffer buf in
-    let one : how_many test (pops ring step.act ++ content_of ring (step ∷ before)) ≡ how_many test (pops ring step.act) + how_many test (content_of ring (step ∷ before)) = how_many-append test (pops ring step.act) (content_of ring (step ∷ before)) in
-    let two : how_many test (content_of ring before ++ pushes ring step.act) ≡ how_many test (content_of ring before) + how_many test (pushes ring step.act) = how_many-append test (content_of ring before) (pushes ring step.act) in
+    let one : how_many test (pops ring step.act ++ content_of ring (step ∷ before))
+    ≡ how_many test (pops ring step.act) + how_many test (content_of ring (step ∷ before))
+    = how_many-append test (pops ring step.act) (content_of ring (step ∷ before)) in
+    let two : how_many test (content_of ring before ++ pushes ring step.act)
+    ≡ how_many test (content_of ring before) + how_many test (pushes ring step.act)
+    = how_many-append test (content_of ring before) (pushes ring step.act) in
     omega (arith, one, two, ap (how_many test) split)
 
 -- what the acting role holds
-own_hands : (buf role : ℕ) (act : Act) (bufs : List ℕ) (was : Place) → Moves buf role act was → times buf bufs ≡ one_if (same_place was (Role role)) → times buf (held_after act bufs) ≡ one_if (same_place (unwrap_or (puts buf role act) was) (Role role))
+own_hands : (buf role : ℕ) (act : Act) (bufs : List ℕ) (was : Place)
+    → Moves buf role act was → times buf bufs ≡ one_if (same_place was (Role role))
+    → times buf (held_after act bufs) ≡ one_if (same_place (unwrap_or (puts buf role act) was) (Role role))
 own_hands buf role (Take b) bufs was moves e =
     elim (cases_Bool (b.0 == buf)) [
       | inl hit ↦ let stood : was ≡ Pool = moves (Role role) (rw hit refl) in
@@ -211,9 +260,15 @@ own_hands buf role (Take b) bufs was moves e =
       | inr miss ↦ rw (miss, zero-add) e
     ]
 own_hands buf role (Give b outcome parcel) bufs was moves e =
-    elim (cases_Bool (b.0 == buf)) [ inl hit ↦ rw (times-without b.0 buf bufs, hit) refl | inr miss ↦ rw (times-without b.0 buf bufs, miss) e ]
+    elim (cases_Bool (b.0 == buf)) [
+      | inl hit ↦ rw (times-without b.0 buf bufs, hit) refl
+      | inr miss ↦ rw (times-without b.0 buf bufs, miss) e
+    ]
 own_hands buf role (Push r (Buffer b parcel)) bufs was moves e =
-    elim (cases_Bool (b.0 == buf)) [ inl hit ↦ rw (times-without b.0 buf bufs, hit) refl | inr miss ↦ rw (times-without b.0 buf bufs, miss) e ]
+    elim (cases_Bool (b.0 == buf)) [
+      | inl hit ↦ rw (times-without b.0 buf bufs, hit) refl
+      | inr miss ↦ rw (times-without b.0 buf bufs, miss) e
+    ]
 own_hands buf role (Push r (Number n)) bufs was moves e = e
 own_hands buf role (Pop r (Buffer b parcel)) bufs was moves e =
     elim (cases_Bool (b.0 == buf)) [
@@ -230,16 +285,29 @@ own_hands buf role (Look a b c) bufs was moves e = e
 own_hands buf role (Post a b) bufs was moves e = e
 
 -- an act changes nothing of what another role holds
-other_hands : (buf role other : ℕ) (act : Act) (was : Place) → (role == other) ≡ false → Moves buf role act was → one_if (same_place was (Role other)) ≡ one_if (same_place (unwrap_or (puts buf role act) was) (Role other))
+other_hands : (buf role other : ℕ) (act : Act) (was : Place) → (role == other) ≡ false → Moves buf role act was
+    → one_if (same_place was (Role other)) ≡ one_if (same_place (unwrap_or (puts buf role act) was) (Role other))
 other_hands buf role other (Take b) was apart moves =
-    elim (cases_Bool (b.0 == buf)) [ inl hit ↦ let stood : was ≡ Pool = moves (Role role) (rw hit refl) in rw (hit, stood, apart) refl | inr miss ↦ rw miss refl ]
+    elim (cases_Bool (b.0 == buf)) [
+      | inl hit ↦ let stood : was ≡ Pool = moves (Role role) (rw hit refl) in rw (hit, stood, apart) refl
+      | inr miss ↦ rw miss refl
+    ]
 other_hands buf role other (Give b outcome parcel) was apart moves =
-    elim (cases_Bool (b.0 == buf)) [ inl hit ↦ let stood : was ≡ Role role = moves Pool (rw hit refl) in rw (hit, stood, apart) refl | inr miss ↦ rw miss refl ]
+    elim (cases_Bool (b.0 == buf)) [
+      | inl hit ↦ let stood : was ≡ Role role = moves Pool (rw hit refl) in rw (hit, stood, apart) refl
+      | inr miss ↦ rw miss refl
+    ]
 other_hands buf role other (Push r (Buffer b parcel)) was apart moves =
-    elim (cases_Bool (b.0 == buf)) [ inl hit ↦ let stood : was ≡ Role role = moves (Ring r) (rw hit refl) in rw (hit, stood, apart) refl | inr miss ↦ rw miss refl ]
+    elim (cases_Bool (b.0 == buf)) [
+      | inl hit ↦ let stood : was ≡ Role role = moves (Ring r) (rw hit refl) in rw (hit, stood, apart) refl
+      | inr miss ↦ rw miss refl
+    ]
 other_hands buf role other (Push r (Number n)) was apart moves = refl
 other_hands buf role other (Pop r (Buffer b parcel)) was apart moves =
-    elim (cases_Bool (b.0 == buf)) [ inl hit ↦ let stood : was ≡ Ring r = moves (Role role) (rw hit refl) in rw (hit, stood, apart) refl | inr miss ↦ rw miss refl ]
+    elim (cases_Bool (b.0 == buf)) [
+      | inl hit ↦ let stood : was ≡ Ring r = moves (Role role) (rw hit refl) in rw (hit, stood, apart) refl
+      | inr miss ↦ rw miss refl
+    ]
 other_hands buf role other (Pop r (Number n)) was apart moves = refl
 other_hands buf role other (Split a) was apart moves = refl
 other_hands buf role other (Join a) was apart moves = refl
@@ -248,29 +316,43 @@ other_hands buf role other (Empty a) was apart moves = refl
 other_hands buf role other (Look a b c) was apart moves = refl
 other_hands buf role other (Post a b) was apart moves = refl
 
-hands_step : (buf : ℕ) (step : Step) (before : History) (other : ℕ) → Moves buf step.role step.act (place_of buf before) → times buf (held_by other before) ≡ once_at (Role other) before buf → times buf (held_by other (step ∷ before)) ≡ once_at (Role other) (step ∷ before) buf
+hands_step : (buf : ℕ) (step : Step) (before : History) (other : ℕ)
+    → Moves buf step.role step.act (place_of buf before)
+    → times buf (held_by other before) ≡ once_at (Role other) before buf
+    → times buf (held_by other (step ∷ before)) ≡ once_at (Role other) (step ∷ before) buf
 hands_step buf step before other moves e =
     elim (cases_Bool (step.role == other)) [
       | inl mine ↦ let same : step.role ≡ other = eqb-true step.role other mine in
-          let e_mine : times buf (held_by other before) ≡ one_if (same_place (place_of buf before) (Role step.role)) = e ∙ ap (λ k. one_if (same_place (place_of buf before) (Role k))) (sym same) in
-          rw mine (own_hands buf step.role step.act (held_by other before) (place_of buf before) moves e_mine ∙ ap (λ k. one_if (same_place (unwrap_or (puts buf step.role step.act) (place_of buf before)) (Role k))) same)
+          let e_mine : times buf (held_by other before) ≡ one_if (same_place (place_of buf before) (Role step.role))
+          = e ∙ ap (λ k. one_if (same_place (place_of buf before) (Role k))) (sym same) in
+          rw mine (own_hands buf step.role step.act (held_by other before) (place_of buf before) moves e_mine
+          ∙ ap (λ k. one_if (same_place (unwrap_or (puts buf step.role step.act) (place_of buf before)) (Role k))) same)
       | inr foreign ↦ rw foreign (e ∙ other_hands buf step.role other step.act (place_of buf before) foreign moves)
     ]
 
 -- the same of rings, also for numbers that no buffer has
-pub in_ring_once : (layout : Layout) (past : History) → IsLawful layout past → (buf : ℕ) (ring : RingId) → how_many (is_buffer buf) (content_of ring past) ≡ once_at (Ring ring) past buf
+pub in_ring_once : (layout : Layout) (past : History) → IsLawful layout past → (buf : ℕ) (ring : RingId)
+    → how_many (is_buffer buf) (content_of ring past) ≡ once_at (Ring ring) past buf
 in_ring_once layout [] lawful buf ring = refl
 in_ring_once layout (step ∷ before) lawful buf ring =
-    let earlier : (r : RingId) → how_many (is_buffer buf) (content_of r before) ≡ once_at (Ring r) before buf = λ r. in_ring_once layout before lawful.1 buf r in
-    let moves : Moves buf step.role step.act (place_of buf before) = origin layout before buf step.role step.act earlier lawful.0.allowed in
-    let rest : how_many (is_buffer buf) (content_of ring (step ∷ before)) + how_many (is_buffer buf) (pops ring step.act) ≡ how_many (is_buffer buf) (content_of ring before) + how_many (is_buffer buf) (pushes ring step.act) = content_counts layout buf ring step before lawful in
+    let earlier : (r : RingId) → how_many (is_buffer buf) (content_of r before) ≡ once_at (Ring r) before buf =
+    λ r. in_ring_once layout before lawful.1 buf r in
+    let moves : Moves buf step.role step.act (place_of buf before) =
+    origin layout before buf step.role step.act earlier lawful.0.allowed in
+    let rest : how_many (is_buffer buf) (content_of ring (step ∷ before))
+    + how_many (is_buffer buf) (pops ring step.act)
+    ≡ how_many (is_buffer buf) (content_of ring before) + how_many (is_buffer buf) (pushes ring step.act)
+    = content_counts layout buf ring step before lawful in
     omega (arith, rest, earlier ring, ring_balance buf step.role ring step.act (place_of buf before) moves)
 
 -- where a buffer that a step names stood before
-pub named_from : (layout : Layout) (step : Step) (before : History) → IsLawful layout (step ∷ before) → (buf : ℕ) → Moves buf step.role step.act (place_of buf before)
-named_from layout step before lawful buf = origin layout before buf step.role step.act (in_ring_once layout before lawful.1 buf) lawful.0.allowed
+pub named_from : (layout : Layout) (step : Step) (before : History) → IsLawful layout (step ∷ before) → (buf : ℕ)
+    → Moves buf step.role step.act (place_of buf before)
+named_from layout step before lawful buf =
+    origin layout before buf step.role step.act (in_ring_once layout before lawful.1 buf) lawful.0.allowed
 
-pub stands_once : (layout : Layout) (past : History) → IsLawful layout past → (buf : ℕ) → IsBuffer layout buf → StandsOnce layout past buf
+pub stands_once : (layout : Layout) (past : History) → IsLawful layout past → (buf : ℕ) → IsBuffer layout buf
+    → StandsOnce layout past buf
 stands_once layout [] lawful buf known = record {
   in_pool = once_below (layout.ports * layout.buffers) buf known;
   in_ring = λ ring. refl;
@@ -278,10 +360,21 @@ stands_once layout [] lawful buf known = record {
 }
 stands_once layout (step ∷ before) lawful buf known =
     let earlier : StandsOnce layout before buf = stands_once layout before lawful.1 buf known in
-    let moves : Moves buf step.role step.act (place_of buf before) = origin layout before buf step.role step.act earlier.in_ring lawful.0.allowed in
+    let moves : Moves buf step.role step.act (place_of buf before) =
+    origin layout before buf step.role step.act earlier.in_ring lawful.0.allowed in
     record {
       in_pool = pool_step buf step.role step.act (pool_of layout before) (place_of buf before) moves earlier.in_pool;
-      in_ring = λ ring. let rest : how_many (is_buffer buf) (content_of ring (step ∷ before)) + how_many (is_buffer buf) (pops ring step.act) ≡ how_many (is_buffer buf) (content_of ring before) + how_many (is_buffer buf) (pushes ring step.act) = content_counts layout buf ring step before lawful in
-          omega (arith, rest, earlier.in_ring ring, ring_balance buf step.role ring step.act (place_of buf before) moves);
+      in_ring =
+          λ ring.
+          let rest : how_many (is_buffer buf) (content_of ring (step ∷ before))
+          + how_many (is_buffer buf) (pops ring step.act)
+          ≡ how_many (is_buffer buf) (content_of ring before) + how_many (is_buffer buf) (pushes ring step.act)
+          = content_counts layout buf ring step before lawful in
+          omega (
+            arith,
+            rest,
+            earlier.in_ring ring,
+            ring_balance buf step.role ring step.act (place_of buf before) moves,
+          );
       in_hands = λ role. hands_step buf step before role moves (earlier.in_hands role);
     }

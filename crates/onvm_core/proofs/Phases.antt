@@ -53,15 +53,20 @@ held_in setting role Leads log = None
 
 -- Receive roles
 
-asked_none : (setting : Setting) (port done k : ℕ) (told : Option Record) → taken_in port (asked setting done k told) ≡ None
-asked_none setting port done k None = elim (cases_Bool (k + 1 == feeders setting)) [ inl met ↦ rw met refl | inr unmet ↦ rw unmet refl ]
+asked_none : (setting : Setting) (port done k : ℕ) (told : Option Record)
+    → taken_in port (asked setting done k told) ≡ None
+asked_none setting port done k None =
+    elim (cases_Bool (k + 1 == feeders setting)) [ inl met ↦ rw met refl | inr unmet ↦ rw unmet refl ]
 asked_none setting port done k (Some told) = refl
 
 sought_none : (port done k seen : ℕ) (told : Option Record) → taken_in port (sought done k seen told) ≡ None
 sought_none port done k seen None = elim (cases_Bool (seen == 0)) [ inl met ↦ rw met refl | inr unmet ↦ rw unmet refl ]
 sought_none port done k seen (Some told) = refl
 
-receive_says : (setting : Setting) (port : ℕ) (e : Entry) (phase : ReceivePhase) (act : Act) (own : Option (ℕ × Load)) → own ≡ taken_in port phase → MayReceiveFor setting port e phase act → own_load_after (record { port = record { 0 = port }; number = done_in phase + 1 }) act own ≡ taken_in port (receive_after setting phase act)
+receive_says : (setting : Setting) (port : ℕ) (e : Entry) (phase : ReceivePhase) (act : Act) (own : Option (ℕ × Load))
+    → own ≡ taken_in port phase → MayReceiveFor setting port e phase act
+    → own_load_after (record { port = record { 0 = port }; number = done_in phase + 1 }) act own
+    ≡ taken_in port (receive_after setting phase act)
 receive_says setting port e (Between done) (Take b) own h may = absurd may
 receive_says setting port e (Between done) (Give b outcome parcel) own h may = absurd may
 receive_says setting port e (Between done) (Push r (Buffer b parcel)) own h may = absurd may
@@ -72,7 +77,8 @@ receive_says setting port e (Between done) (Split a) own h may = absurd may
 receive_says setting port e (Between done) (Join a) own h may = absurd may
 receive_says setting port e (Between done) (Full r) own h may = absurd may
 receive_says setting port e (Between done) (Empty a) own h may = absurd may
-receive_says setting port e (Between done) (Look (PostWord f) v t) own h may = h ∙ sym (asked_none setting port done 0 t)
+receive_says setting port e (Between done) (Look (PostWord f) v t) own h may =
+    h ∙ sym (asked_none setting port done 0 t)
 receive_says setting port e (Between done) (Look (PoolWord f g) v t) own h may = h
 receive_says setting port e (Between done) (Look (Cell f g) v t) own h may = h
 receive_says setting port e (Between done) (Look (Weight f) v t) own h may = h
@@ -138,7 +144,9 @@ receive_says setting port e (Barred done buf ring) (Empty a) own h may = absurd 
 receive_says setting port e (Barred done buf ring) (Look w v t) own h may = absurd may
 receive_says setting port e (Barred done buf ring) (Post a b) own h may = absurd may
 
-mark_says : (setting : Setting) (port : ℕ) (phase : ReceivePhase) (act : Act) (fresh : FrameId) (own : Option (ℕ × Load)) → own ≡ taken_in port phase → IsBetween phase → IsMark setting port act → own_load_after fresh act own ≡ taken_in port (receive_after setting phase act)
+mark_says : (setting : Setting) (port : ℕ) (phase : ReceivePhase) (act : Act) (fresh : FrameId)
+    (own : Option (ℕ × Load)) → own ≡ taken_in port phase → IsBetween phase → IsMark setting port act
+    → own_load_after fresh act own ≡ taken_in port (receive_after setting phase act)
 mark_says setting port (Between done) (Take b) fresh own h between may = absurd may
 mark_says setting port (Between done) (Give b outcome parcel) fresh own h between may = absurd may
 mark_says setting port (Between done) (Push r (Buffer b parcel)) fresh own h between may = absurd may
@@ -164,7 +172,9 @@ mark_says setting port (Barred done buf ring) act fresh own h between may = absu
 
 -- Cores
 
-core_says : (setting : Setting) (role : ℕ) (before : Log) (act : Act) (fresh : FrameId) (own : Option (ℕ × Load)) (hand : Option Hand) → own ≡ handled_in hand → MayHandle setting role before act → own_load_after fresh act own ≡ handled_in (handles act hand)
+core_says : (setting : Setting) (role : ℕ) (before : Log) (act : Act) (fresh : FrameId) (own : Option (ℕ × Load))
+    (hand : Option Hand) → own ≡ handled_in hand → MayHandle setting role before act
+    → own_load_after fresh act own ≡ handled_in (handles act hand)
 core_says setting role before (Take b) fresh own hand h may = absurd may
 core_says setting role before (Give b outcome parcel) fresh own hand h may = absurd may
 core_says setting role before (Push (Output f) (Buffer b parcel)) fresh own hand h may = refl
@@ -188,7 +198,9 @@ core_says setting role before (Post a b) fresh own hand h may = absurd may
 
 -- Transmit roles
 
-send_says : (setting : Setting) (feeder : ℕ) (phase : SendPhase) (act : Act) (fresh : FrameId) (own : Option (ℕ × Load)) → own ≡ moved_in phase → MaySend setting feeder phase act → own_load_after fresh act own ≡ moved_in (send_after phase act)
+send_says : (setting : Setting) (feeder : ℕ) (phase : SendPhase) (act : Act) (fresh : FrameId) (own : Option (ℕ × Load))
+    → own ≡ moved_in phase → MaySend setting feeder phase act
+    → own_load_after fresh act own ≡ moved_in (send_after phase act)
 send_says setting feeder Free (Take b) fresh own h may = absurd may
 send_says setting feeder Free (Give b outcome parcel) fresh own h may = absurd may
 send_says setting feeder Free (Push r (Buffer b parcel)) fresh own h may = absurd may
@@ -232,7 +244,9 @@ send_says setting feeder (TurnsBack hand ring) (Post a b) fresh own h may = absu
 
 -- The tick role and that of the first token have nothing
 
-tick_says : (setting : Setting) (act : Act) (fresh : FrameId) (own : Option (ℕ × Load)) → own ≡ None → MayTick setting act → own_load_after fresh act own ≡ None
+tick_says : (setting : Setting) (act : Act) (fresh : FrameId) (own : Option (ℕ × Load))
+    → own ≡ None → MayTick setting act
+    → own_load_after fresh act own ≡ None
 tick_says setting (Take b) fresh own h may = absurd may
 tick_says setting (Give b outcome parcel) fresh own h may = absurd may
 tick_says setting (Push r (Buffer b parcel)) fresh own h may = absurd may
@@ -248,7 +262,8 @@ tick_says setting (Empty a) fresh own h may = h
 tick_says setting (Look w v t) fresh own h may = absurd may
 tick_says setting (Post a b) fresh own h may = h
 
-lead_says : (act : Act) (fresh : FrameId) (own : Option (ℕ × Load)) → own ≡ None → MayLead act → own_load_after fresh act own ≡ None
+lead_says : (act : Act) (fresh : FrameId) (own : Option (ℕ × Load)) → own ≡ None → MayLead act
+    → own_load_after fresh act own ≡ None
 lead_says (Take b) fresh own h may = absurd may
 lead_says (Give b outcome parcel) fresh own h may = absurd may
 lead_says (Push r (Buffer b parcel)) fresh own h may = absurd may
@@ -263,7 +278,8 @@ lead_says (Look w v t) fresh own h may = h
 lead_says (Post a b) fresh own h may = absurd may
 
 -- a role's own log says just what its phase says
-pub own_says : (setting : Setting) (role : ℕ) (kind : Kind) (log : Log) → IsKind setting role kind log → own_load setting role log ≡ held_in setting role kind log
+pub own_says : (setting : Setting) (role : ℕ) (kind : Kind) (log : Log) → IsKind setting role kind log
+    → own_load setting role log ≡ held_in setting role kind log
 own_says setting role Receives [] h = refl
 own_says setting role Sends [] h = refl
 own_says setting role Handles [] h = refl
@@ -271,13 +287,25 @@ own_says setting role Ticks [] h = refl
 own_says setting role Leads [] h = refl
 own_says setting role Receives (act ∷ before) h =
     elim h.0 [
-      | inl mark ↦ mark_says setting role (receive_phase setting before) act (block_frame setting role before) (own_load setting role before) (own_says setting role Receives before h.1) mark.0 mark.1
-      | inr block ↦ receive_says setting role block.0 (receive_phase setting before) act (own_load setting role before) (own_says setting role Receives before h.1) block.2
+      | inl mark ↦
+          mark_says setting role (receive_phase setting before) act (block_frame setting role before)
+          (own_load setting role before) (own_says setting role Receives before h.1) mark.0 mark.1
+      | inr block ↦
+          receive_says setting role block.0 (receive_phase setting before) act (own_load setting role before)
+          (own_says setting role Receives before h.1) block.2
     ]
-own_says setting role Sends (act ∷ before) h = send_says setting role (send_phase before) act (block_frame setting role before) (own_load setting role before) (own_says setting role Sends before h.1) h.0
-own_says setting role Handles (act ∷ before) h = core_says setting role before act (block_frame setting role before) (own_load setting role before) (core_hand before) (own_says setting role Handles before h.1) h.0
-own_says setting role Ticks (act ∷ before) h = tick_says setting act (block_frame setting role before) (own_load setting role before) (own_says setting role Ticks before h.1) h.0
-own_says setting role Leads (act ∷ before) h = lead_says act (block_frame setting role before) (own_load setting role before) (own_says setting role Leads before h.1) h.0
+own_says setting role Sends (act ∷ before) h =
+    send_says setting role (send_phase before) act (block_frame setting role before) (own_load setting role before)
+    (own_says setting role Sends before h.1) h.0
+own_says setting role Handles (act ∷ before) h =
+    core_says setting role before act (block_frame setting role before) (own_load setting role before)
+    (core_hand before) (own_says setting role Handles before h.1) h.0
+own_says setting role Ticks (act ∷ before) h =
+    tick_says setting act (block_frame setting role before) (own_load setting role before)
+    (own_says setting role Ticks before h.1) h.0
+own_says setting role Leads (act ∷ before) h =
+    lead_says act (block_frame setting role before) (own_load setting role before)
+    (own_says setting role Leads before h.1) h.0
 
 -- A role takes or pops only while it has nothing
 
@@ -286,7 +314,9 @@ IsFreeFor own (Take b) = own ≡ None
 IsFreeFor own (Pop r (Buffer b parcel)) = own ≡ None
 IsFreeFor own _ = Unit {0}
 
-receive_frees : (setting : Setting) (port : ℕ) (e : Entry) (phase : ReceivePhase) (act : Act) (own : Option (ℕ × Load)) → own ≡ taken_in port phase → MayReceiveFor setting port e phase act → IsFreeFor own act
+receive_frees : (setting : Setting) (port : ℕ) (e : Entry) (phase : ReceivePhase) (act : Act) (own : Option (ℕ × Load))
+    → own ≡ taken_in port phase → MayReceiveFor setting port e phase act
+    → IsFreeFor own act
 receive_frees setting port e (Between done) (Take b) own h may = absurd may
 receive_frees setting port e (Between done) (Give b outcome parcel) own h may = tt
 receive_frees setting port e (Between done) (Push r (Buffer b parcel)) own h may = tt
@@ -360,7 +390,8 @@ receive_frees setting port e (Barred done buf ring) (Empty a) own h may = tt
 receive_frees setting port e (Barred done buf ring) (Look w v t) own h may = tt
 receive_frees setting port e (Barred done buf ring) (Post a b) own h may = tt
 
-mark_frees : (setting : Setting) (feeder : ℕ) (act : Act) (own : Option (ℕ × Load)) → IsMark setting feeder act → IsFreeFor own act
+mark_frees : (setting : Setting) (feeder : ℕ) (act : Act) (own : Option (ℕ × Load)) → IsMark setting feeder act
+    → IsFreeFor own act
 mark_frees setting feeder (Take b) own may = absurd may
 mark_frees setting feeder (Give b outcome parcel) own may = tt
 mark_frees setting feeder (Push r (Buffer b parcel)) own may = tt
@@ -374,7 +405,9 @@ mark_frees setting feeder (Empty a) own may = tt
 mark_frees setting feeder (Look w v t) own may = tt
 mark_frees setting feeder (Post a b) own may = tt
 
-core_frees : (setting : Setting) (role : ℕ) (before : Log) (act : Act) (own : Option (ℕ × Load)) → own ≡ handled_in (core_hand before) → MayHandle setting role before act → IsFreeFor own act
+core_frees : (setting : Setting) (role : ℕ) (before : Log) (act : Act) (own : Option (ℕ × Load))
+    → own ≡ handled_in (core_hand before) → MayHandle setting role before act
+    → IsFreeFor own act
 core_frees setting role before (Take b) own h may = absurd may
 core_frees setting role before (Give b outcome parcel) own h may = tt
 core_frees setting role before (Push r (Buffer b parcel)) own h may = tt
@@ -390,7 +423,9 @@ core_frees setting role before (Empty a) own h may = tt
 core_frees setting role before (Look w v t) own h may = tt
 core_frees setting role before (Post a b) own h may = tt
 
-send_frees : (setting : Setting) (feeder : ℕ) (phase : SendPhase) (act : Act) (own : Option (ℕ × Load)) → own ≡ moved_in phase → MaySend setting feeder phase act → IsFreeFor own act
+send_frees : (setting : Setting) (feeder : ℕ) (phase : SendPhase) (act : Act) (own : Option (ℕ × Load))
+    → own ≡ moved_in phase → MaySend setting feeder phase act
+    → IsFreeFor own act
 send_frees setting feeder Free (Take b) own h may = absurd may
 send_frees setting feeder Free (Give b outcome parcel) own h may = tt
 send_frees setting feeder Free (Push r (Buffer b parcel)) own h may = tt
@@ -460,13 +495,19 @@ lead_frees (Empty a) own may = tt
 lead_frees (Look w v t) own may = tt
 lead_frees (Post a b) own may = tt
 
-pub frees_of : (setting : Setting) (role : ℕ) (kind : Kind) (log : Log) (act : Act) → IsKind setting role kind (act ∷ log) → IsFreeFor (own_load setting role log) act
+pub frees_of : (setting : Setting) (role : ℕ) (kind : Kind) (log : Log) (act : Act)
+    → IsKind setting role kind (act ∷ log)
+    → IsFreeFor (own_load setting role log) act
 frees_of setting role Receives log act h =
     elim h.0 [
       | inl mark ↦ mark_frees setting role act (own_load setting role log) mark.1
-      | inr block ↦ receive_frees setting role block.0 (receive_phase setting log) act (own_load setting role log) (own_says setting role Receives log h.1) block.2
+      | inr block ↦
+          receive_frees setting role block.0 (receive_phase setting log) act (own_load setting role log)
+          (own_says setting role Receives log h.1) block.2
     ]
-frees_of setting role Sends log act h = send_frees setting role (send_phase log) act (own_load setting role log) (own_says setting role Sends log h.1) h.0
-frees_of setting role Handles log act h = core_frees setting role log act (own_load setting role log) (own_says setting role Handles log h.1) h.0
+frees_of setting role Sends log act h =
+    send_frees setting role (send_phase log) act (own_load setting role log) (own_says setting role Sends log h.1) h.0
+frees_of setting role Handles log act h =
+    core_frees setting role log act (own_load setting role log) (own_says setting role Handles log h.1) h.0
 frees_of setting role Ticks log act h = tick_frees setting act (own_load setting role log) h.0
 frees_of setting role Leads log act h = lead_frees act (own_load setting role log) h.0

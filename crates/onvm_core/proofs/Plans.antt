@@ -19,7 +19,8 @@ two P x y px py = All-cons P x (y ∷ []) px (one P y py)
 
 -- a name of one letter
 pub is_letter : (c : ℕ) → is_name_character c ≡ true → IsName (c ∷ [])
-is_letter c letter = record { length_of = (omega arith, omega arith); characters = one (λ k. is_name_character k ≡ true) c letter }
+is_letter c letter =
+    record { length_of = (omega arith, omega arith); characters = one (λ k. is_name_character k ≡ true) c letter }
 
 pub forwards : IsKind Forward
 forwards = record {
@@ -39,9 +40,11 @@ forwards = record {
 
 -- a forwarding function of this one-letter name and service, on core 0
 abbrev pub forwarding : ℕ → ℕ → FunctionPlan
-forwarding letter service = record { name = letter ∷ []; service = service; core = 0; kind = Forward; priority = 1; weight = 1024; cost = 100 }
+forwarding letter service =
+    record { name = letter ∷ []; service = service; core = 0; kind = Forward; priority = 1; weight = 1024; cost = 100 }
 
-pub is_forwarding : (letter service : ℕ) → is_name_character letter ≡ true → 1 ≤ service → service ≤ 255 → IsFunction 1 (forwarding letter service)
+pub is_forwarding : (letter service : ℕ) → is_name_character letter ≡ true → 1 ≤ service → service ≤ 255
+    → IsFunction 1 (forwarding letter service)
 is_forwarding letter service named some few = record {
   name = is_letter letter named;
   service = (some, few);
@@ -56,7 +59,9 @@ is_forwarding letter service named some few = record {
 abbrev pub through : ℕ → ℕ → ChainPlan
 through letter service = record { name = letter ∷ []; steps = Service service ∷ Port 0 ∷ [] }
 
-pub is_through : (letter service : ℕ) (functions : List FunctionPlan) → is_name_character letter ≡ true → instances service functions ≢ [] → IsChainPlan 1 functions (through letter service)
+pub is_through : (letter service : ℕ) (functions : List FunctionPlan)
+    → is_name_character letter ≡ true → instances service functions ≢ []
+    → IsChainPlan 1 functions (through letter service)
 is_through letter service functions named offered = record {
   name = is_letter letter named;
   length_of = (omega arith, omega arith);
@@ -116,7 +121,9 @@ smallest = record {
     functions_are = one (IsFunction 1) (forwarding 102 1) (is_forwarding 102 1 refl (omega arith) (omega arith));
     functions_differ = λ i j f g less at_i at_j. absurd (no_pair (forwarding 102 1) g i j less at_j);
     chain_count = (omega arith, omega arith);
-    chains_are = one (IsChainPlan 1 (forwarding 102 1 ∷ [])) (through 97 1) (is_through 97 1 (forwarding 102 1 ∷ []) refl (λ e. cc));
+    chains_are =
+        one (IsChainPlan 1 (forwarding 102 1 ∷ [])) (through 97 1)
+        (is_through 97 1 (forwarding 102 1 ∷ []) refl (λ e. cc));
     chains_differ = λ i j c d less at_i at_j. absurd (no_pair (through 97 1) d i j less at_j);
     rule_count = omega arith;
     rules_are = All-nil (IsRule 1);
@@ -135,7 +142,9 @@ same_some : {A : Type 0} (x y : A) → Some x ≡ Some y → x ≡ y
 same_some x y e = cc
 
 -- at two different places of a list of two stand the first and the second
-pub pairs : {A : Type 0} (R : A → A → Type 0) (x y : A) → R x y → (i j : ℕ) (f g : A) → i < j → slice_get (x ∷ y ∷ []) i ≡ Some f → slice_get (x ∷ y ∷ []) j ≡ Some g → R f g
+pub pairs : {A : Type 0} (R : A → A → Type 0) (x y : A)
+    → R x y → (i j : ℕ) (f g : A) → i < j → slice_get (x ∷ y ∷ []) i ≡ Some f → slice_get (x ∷ y ∷ []) j ≡ Some g
+    → R f g
 pairs {A} R x y related i j f g less at_i at_j =
     let second : j ≡ 1 = omega (arith, less, slice_get_within (x ∷ y ∷ []) j g at_j) in
     let first : i ≡ 0 = omega (arith, less, second) in
@@ -181,13 +190,17 @@ narrow_by burst few = record {
       tick = (omega arith, omega arith);
     };
     function_count = (omega arith, omega arith);
-    functions_are = two (IsFunction 1) (forwarding 102 1) (forwarding 103 2) (is_forwarding 102 1 refl (omega arith) (omega arith)) (is_forwarding 103 2 refl (omega arith) (omega arith));
+    functions_are =
+        two (IsFunction 1) (forwarding 102 1) (forwarding 103 2) (is_forwarding 102 1 refl (omega arith) (omega arith))
+        (is_forwarding 103 2 refl (omega arith) (omega arith));
     functions_differ = pairs AreDifferent (forwarding 102 1) (forwarding 103 2) differ_is;
     chain_count = (omega arith, omega arith);
     chains_are = two (IsChainPlan 1 (forwarding 102 1 ∷ forwarding 103 2 ∷ [])) (through 97 1) (through 98 2)
         (is_through 97 1 (forwarding 102 1 ∷ forwarding 103 2 ∷ []) refl (λ e. cc))
         (is_through 98 2 (forwarding 102 1 ∷ forwarding 103 2 ∷ []) refl (λ e. cc));
-    chains_differ = pairs (λ c d. c.name ≢ d.name) (through 97 1) (through 98 2) (λ e. let n : ◌≡◌ {A = ℕ} 97 98 = cc in omega (arith, n));
+    chains_differ =
+        pairs (λ c d. c.name ≢ d.name) (through 97 1) (through 98 2)
+        (λ e. let n : ◌≡◌ {A = ℕ} 97 98 = cc in omega (arith, n));
     rule_count = omega arith;
     rules_are = All-nil (IsRule 2);
     default_is = omega arith;

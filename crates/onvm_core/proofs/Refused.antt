@@ -1,24 +1,23 @@
 -- Acts that the pattern of a log refuses, one for each of its parts that no law needs.
-use Rattle.std.proofs.Common.{◌≡◌, ℕ, ◌<◌, zero, suc, Bool, true, false, inl, inr, List, [], ◌∷◌, refl, sym, ◌∙◌, arith, Option, Some, None}
-use Rattle.std.specs.Prelude.{IsBitSet}
+use Rattle.std.proofs.Common.{◌≡◌, ℕ, ◌<◌, suc, [], ◌∷◌, refl, arith, Some, None}
 use Rattle.onvm_base.specs.declared.ids.RingId.TheVariants.{Lane, Output}
 use Rattle.onvm_base.specs.declared.outcome.Outcome.TheVariants.{Sent, Dropped}
 use Rattle.onvm_base.specs.declared.outcome.Why.TheVariants.{Asked}
-use Rattle.onvm_base.specs.declared.ids.FnId.{FnId}
 use Rattle.onvm_core.specs.declared.layout.Word.TheVariants.{Pool as PoolWord, Cell, Post as PostWord, Weight}
 use Rattle.onvm_core.specs.declared.step.Act.{Act}
 use Rattle.onvm_core.specs.declared.step.Act.TheVariants.{Split, Join, Take, Give, Push, Full, Pop, Empty, Look, Post}
 use Rattle.onvm_core.specs.declared.step.Item.TheVariants.{Buffer}
-use Rattle.onvm_core.specs.Logs.{Log, Setting, Hand, entry_parcel}
-use Rattle.onvm_core.specs.Receiving.{MayReceiveFor, ReceivePhase}
+use Rattle.onvm_core.specs.Logs.{Log, Hand, entry_parcel}
+use Rattle.onvm_core.specs.Receiving.{MayReceiveFor}
 use Rattle.onvm_core.specs.Receiving.ReceivePhase.{Between, Sees}
-use Rattle.onvm_core.specs.Handling.{MayHandle, SawRoom, budget, is_push_on}
+use Rattle.onvm_core.specs.Handling.{MayHandle, SawRoom, budget}
 use Rattle.onvm_core.specs.Handling.SawRoom.{ByLook, Since}
-use Rattle.onvm_core.specs.Sending.{MaySend, SendPhase}
+use Rattle.onvm_core.specs.Sending.{MaySend}
 use Rattle.onvm_core.specs.Sending.SendPhase.{Moves}
 use Rattle.onvm_core.proofs.Plans.{hasty, smallest}
 use Rattle.onvm_core.proofs.Crowd.{setting, f, b0, b1, e1, e3}
-use Rattle.onvm_core.proofs.Held.{handled, raises_f}
+use Rattle.onvm_core.proofs.Held.{raises_f}
+use Rattle.onvm_core.proofs.HeldSteps.{handled}
 
 -- A receive role
 
@@ -37,7 +36,8 @@ no_passing_by may = may.1 0 raises_f
 -- A core
 
 -- what it may pop after a look at the weight word of value 0, 512, and 2 to the 20th
-pub budgets : (budget smallest f 0 ≡ 32) × (budget smallest f 512 ≡ 16) × (budget smallest f 1 ≡ 1) × (budget smallest f 1048576 ≡ 1024) × (budget hasty f 0 ≡ 1)
+pub budgets : (budget smallest f 0 ≡ 32) × (budget smallest f 512 ≡ 16) × (budget smallest f 1 ≡ 1)
+    × (budget smallest f 1048576 ≡ 1024) × (budget hasty f 0 ≡ 1)
 budgets = (refl, refl, refl, refl, refl)
 
 -- how many looks at output cells a log has
@@ -70,12 +70,18 @@ pub no_blind_pop : MayHandle setting 2 (Look (Weight f) 0 None ∷ []) (Pop (Lan
 no_blind_pop may = omega (arith, saw_some (Look (Weight f) 0 None ∷ []) may.room)
 
 -- pops nothing before it looked at the weight word
-pub no_pop_on_credit : MayHandle setting 2 (Look (Cell (Output f) 0) 0 None ∷ []) (Pop (Lane f 0) (Buffer b0 (entry_parcel e1))) → ⊥
+pub no_pop_on_credit : MayHandle setting 2 (Look (Cell (Output f) 0) 0 None ∷ [])
+    (Pop (Lane f 0) (Buffer b0 (entry_parcel e1)))
+    → ⊥
 no_pop_on_credit may = omega (arith, may.left)
 
 -- pops nothing while it has a parcel in hand
-pub no_second_pop : (log : Log) → MayHandle setting 2 (Pop (Lane f 0) (Buffer b0 (entry_parcel e1)) ∷ log) (Pop (Lane f 0) (Buffer b1 (entry_parcel e1))) → ⊥
-no_second_pop log may = let off : Some (record { function = f; buf = 0; parcel = entry_parcel e1 }) ≡ None = may.free in cc
+pub no_second_pop : (log : Log)
+    → MayHandle setting 2 (Pop (Lane f 0) (Buffer b0 (entry_parcel e1)) ∷ log)
+    (Pop (Lane f 0) (Buffer b1 (entry_parcel e1)))
+    → ⊥
+no_second_pop log may =
+    let off : Some (record { function = f; buf = 0; parcel = entry_parcel e1 }) ≡ None = may.free in cc
 
 -- gives nothing back
 pub no_give : (log : Log) → MayHandle setting 2 log (Give b0 (Sent 0) (entry_parcel e1)) → ⊥

@@ -1,12 +1,12 @@
 -- A core's log with a sample that is mailed and one that is lost, and a sample that counts too many.
-use Rattle.std.proofs.Common.{◌≡◌, ℕ, ◌<◌, true, List, [], ◌∷◌, refl, arith}
+use Rattle.std.proofs.Common.{◌≡◌, true, [], ◌∷◌, refl, arith}
 use Rattle.onvm_base.specs.declared.ids.RingId.TheVariants.{Output, Mail}
 use Rattle.onvm_core.specs.declared.step.Act.TheVariants.{Push, Full}
 use Rattle.onvm_core.specs.declared.step.Item.TheVariants.{Buffer, Number}
 use Rattle.onvm_core.specs.Logs.{Log}
 use Rattle.onvm_core.specs.Samples.{AreSamples, is_sampled, lost_count, mailed_count}
 use Rattle.onvm_core.proofs.Crowd.{f, b0, b1, e1, e2}
-use Rattle.onvm_core.proofs.Held.{handled}
+use Rattle.onvm_core.proofs.HeldSteps.{handled}
 
 abbrev one_handled : Log
 one_handled = Push (Output f) (Buffer b0 (handled e1 0)) ∷ []

@@ -9,12 +9,16 @@ use Rattle.onvm_core.specs.Layouts.{same_ring}
 use Rattle.onvm_core.specs.History.{History, pushed_on, pushes}
 use Rattle.onvm_core.specs.Words.{standing, number_of, bits}
 use Rattle.std.proofs.lemmas.List.{take_more, reverse-append, take-append-drop, append-nil, drop_all, length-drop}
+use Rattle.onvm_core.proofs.Lists.{get_front, get_last, if_met}
 
-pub newest : {X : Type 0} (xs : List X) (i : ℕ) (d : X) → i < length xs → reverse (take (i + 1) xs) ≡ get_or xs i d ∷ reverse (take i xs)
+pub newest : {X : Type 0} (xs : List X) (i : ℕ) (d : X) → i < length xs
+    → reverse (take (i + 1) xs) ≡ get_or xs i d ∷ reverse (take i xs)
 newest xs i d h = ap reverse (take_more xs i d h) ∙ reverse-append (take i xs) (get_or xs i d ∷ [])
 
 -- lists of one length that agree at each place are one
-pub same_by_get : {X : Type 0} (xs ys : List X) → length xs ≡ length ys → ((k : ℕ) → k < length xs → slice_get xs k ≡ slice_get ys k) → xs ≡ ys
+pub same_by_get : {X : Type 0} (xs ys : List X)
+    → length xs ≡ length ys → ((k : ℕ) → k < length xs → slice_get xs k ≡ slice_get ys k)
+    → xs ≡ ys
 same_by_get [] [] e h = refl
 same_by_get [] (y ∷ ys) e h = absurd (omega arith)
 same_by_get (x ∷ xs) [] e h = absurd (omega arith)
@@ -23,51 +27,65 @@ same_by_get (x ∷ xs) (y ∷ ys) e h =
     let rest : xs ≡ ys = same_by_get xs ys (omega arith) (λ k less. h (suc k) (omega arith)) in
     cc
 
-pushed_on-append : (ring : RingId) (late early : History) → pushed_on ring (late ++ early) ≡ pushed_on ring early ++ pushed_on ring late
+pushed_on-append : (ring : RingId) (late early : History)
+    → pushed_on ring (late ++ early) ≡ pushed_on ring early ++ pushed_on ring late
 pushed_on-append ring [] early = sym (append-nil (pushed_on ring early))
-pushed_on-append ring (step ∷ late) early = ap (λ (xs : List Item). xs ++ pushes ring step.act) (pushed_on-append ring late early) ∙ append_assoc (pushed_on ring early) (pushed_on ring late) (pushes ring step.act)
+pushed_on-append ring (step ∷ late) early =
+    ap (λ (xs : List Item). xs ++ pushes ring step.act) (pushed_on-append ring late early)
+    ∙ append_assoc (pushed_on ring early) (pushed_on ring late) (pushes ring step.act)
 
-get_front : {A : Type 0} (xs ys : List A) (k : ℕ) (x : A) → slice_get xs k ≡ Some x → slice_get (xs ++ ys) k ≡ Some x
-get_front [] ys k x e = absurd (cc)
-get_front (y ∷ xs) ys zero x e = e
-get_front (y ∷ xs) ys (suc k) x e = get_front xs ys k x e
-
-get_last : {A : Type 0} (xs : List A) (x : A) → slice_get (xs ++ x ∷ []) (length xs) ≡ Some x
-get_last [] x = refl
-get_last (y ∷ xs) x = get_last xs x
-
-pushed_one : (ring r : RingId) (before : History) (step : Step) (item : Item) → step.act ≡ Push r item → same_ring r ring ≡ true → pushed_on ring (step ∷ before) ≡ pushed_on ring before ++ item ∷ []
+pushed_one : (ring r : RingId) (before : History) (step : Step) (item : Item)
+    → step.act ≡ Push r item → same_ring r ring ≡ true
+    → pushed_on ring (step ∷ before) ≡ pushed_on ring before ++ item ∷ []
 pushed_one ring r before step item acts same = rw (acts, same) refl
 
 -- the item of a push on the ring is the one that was pushed after those of the steps before
-pub pushed_at : (ring r : RingId) (xs : List Step) (i : ℕ) (step : Step) (item : Item) → i < length xs → step ≡ get_or xs i step → step.act ≡ Push r item → same_ring r ring ≡ true → slice_get (pushed_on ring (reverse xs)) (length (pushed_on ring (reverse (take i xs)))) ≡ Some item
+pub pushed_at : (ring r : RingId) (xs : List Step) (i : ℕ) (step : Step) (item : Item)
+    → i < length xs → step ≡ get_or xs i step → step.act ≡ Push r item → same_ring r ring ≡ true
+    → slice_get (pushed_on ring (reverse xs)) (length (pushed_on ring (reverse (take i xs)))) ≡ Some item
 pushed_at ring r xs i step item within at acts same =
-    let whole : reverse xs ≡ reverse (drop (i + 1) xs) ++ reverse (take (i + 1) xs) = ap reverse (sym (take-append-drop (i + 1) xs)) ∙ reverse-append (take (i + 1) xs) (drop (i + 1) xs) in
-    let early : reverse (take (i + 1) xs) ≡ step ∷ reverse (take i xs) = newest xs i step within ∙ ap (λ (s : Step). s ∷ reverse (take i xs)) (sym at) in
-    let items : pushed_on ring (reverse (take (i + 1) xs)) ≡ pushed_on ring (reverse (take i xs)) ++ item ∷ [] = ap (pushed_on ring) early ∙ pushed_one ring r (reverse (take i xs)) step item acts same in
-    let all : pushed_on ring (reverse xs) ≡ (pushed_on ring (reverse (take i xs)) ++ item ∷ []) ++ pushed_on ring (reverse (drop (i + 1) xs)) = ap (pushed_on ring) whole ∙ pushed_on-append ring (reverse (drop (i + 1) xs)) (reverse (take (i + 1) xs)) ∙ ap (λ (ys : List Item). ys ++ pushed_on ring (reverse (drop (i + 1) xs))) items in
+    let whole : reverse xs ≡ reverse (drop (i + 1) xs) ++ reverse (take (i + 1) xs) =
+    ap reverse (sym (take-append-drop (i + 1) xs)) ∙ reverse-append (take (i + 1) xs) (drop (i + 1) xs) in
+    let early : reverse (take (i + 1) xs) ≡ step ∷ reverse (take i xs) =
+    newest xs i step within ∙ ap (λ (s : Step). s ∷ reverse (take i xs)) (sym at) in
+    let items : pushed_on ring (reverse (take (i + 1) xs)) ≡ pushed_on ring (reverse (take i xs)) ++ item ∷ [] =
+    ap (pushed_on ring) early ∙ pushed_one ring r (reverse (take i xs)) step item acts same in
+    let all : pushed_on ring (reverse xs)
+    ≡ (pushed_on ring (reverse (take i xs)) ++ item ∷ []) ++ pushed_on ring (reverse (drop (i + 1) xs))
+    = ap (pushed_on ring) whole
+    ∙ pushed_on-append ring (reverse (drop (i + 1) xs)) (reverse (take (i + 1) xs))
+    ∙ ap (λ (ys : List Item). ys ++ pushed_on ring (reverse (drop (i + 1) xs))) items in
     subst (λ (ys : List Item). slice_get ys (length (pushed_on ring (reverse (take i xs)))) ≡ Some item) (sym all)
-    (get_front (pushed_on ring (reverse (take i xs)) ++ item ∷ []) (pushed_on ring (reverse (drop (i + 1) xs))) (length (pushed_on ring (reverse (take i xs)))) item (get_last (pushed_on ring (reverse (take i xs))) item))
-
-chosen : (b : Bool) (x y : ℕ) → b ≡ true → (if b then x else y) ≡ x
-chosen b x y e = rw e refl
+    (get_front (pushed_on ring (reverse (take i xs)) ++ item ∷ []) (pushed_on ring (reverse (drop (i + 1) xs)))
+    (length (pushed_on ring (reverse (take i xs)))) item (get_last (pushed_on ring (reverse (take i xs))) item))
 
 -- what stands in a cell, one item on
-standing_from : (size at n k : ℕ) (items : List Item) (item : Item) → slice_get items k ≡ Some item → standing size at n (drop k items) ≡ (if n % size == at then number_of item else standing size at (n + 1) (drop (suc k) items))
+standing_from : (size at n k : ℕ) (items : List Item) (item : Item) → slice_get items k ≡ Some item
+    → standing size at n (drop k items)
+    ≡ (if n % size == at then number_of item else standing size at (n + 1) (drop (suc k) items))
 standing_from size at n k [] item e = absurd (cc)
-standing_from size at n zero (x ∷ items) item e = let same : x ≡ item = cc in ap (λ (i : Item). if n % size == at then number_of i else standing size at (n + 1) items) same
+standing_from size at n zero (x ∷ items) item e =
+    let same : x ≡ item = cc in
+    ap (λ (i : Item). if n % size == at then number_of i else standing size at (n + 1) items) same
 standing_from size at n (suc k) (x ∷ items) item e = standing_from size at n k items item e
 
-standing_past : (size at n k : ℕ) (items : List Item) → k < length items → (n % size == at) ≡ false → standing size at n (drop k items) ≡ standing size at (n + 1) (drop (suc k) items)
+standing_past : (size at n k : ℕ) (items : List Item) → k < length items → (n % size == at) ≡ false
+    → standing size at n (drop k items) ≡ standing size at (n + 1) (drop (suc k) items)
 standing_past size at n k [] less e = absurd (omega arith)
 standing_past size at n zero (x ∷ items) less e = rw e refl
 standing_past size at n (suc k) (x ∷ items) less e = standing_past size at n k items (omega arith) e
 
-pub standing_here : (size at k : ℕ) (items : List Item) (item : Item) → slice_get items k ≡ Some item → (k % size == at) ≡ true → standing size at k (drop k items) ≡ number_of item
-standing_here size at k items item e met = standing_from size at k k items item e ∙ chosen (k % size == at) (number_of item) (standing size at (k + 1) (drop (suc k) items)) met
+pub standing_here : (size at k : ℕ) (items : List Item) (item : Item)
+    → slice_get items k ≡ Some item → (k % size == at) ≡ true
+    → standing size at k (drop k items) ≡ number_of item
+standing_here size at k items item e met =
+    standing_from size at k k items item e
+    ∙ if_met (k % size == at) (number_of item) (standing size at (k + 1) (drop (suc k) items)) met
 
-pub standing_next : (size at k : ℕ) (items : List Item) → k < length items → (k % size == at) ≡ false → standing size at k (drop k items) ≡ standing size at (k + 1) (drop (k + 1) items)
-standing_next size at k items less e = standing_past size at k k items less e ∙ ap (λ (m : ℕ). standing size at (k + 1) (drop m items)) (sym (add-one k))
+pub standing_next : (size at k : ℕ) (items : List Item) → k < length items → (k % size == at) ≡ false
+    → standing size at k (drop k items) ≡ standing size at (k + 1) (drop (k + 1) items)
+standing_next size at k items less e =
+    standing_past size at k k items less e ∙ ap (λ (m : ℕ). standing size at (k + 1) (drop m items)) (sym (add-one k))
 
 pub standing_none : (size at k : ℕ) (items : List Item) → length items ≤ k → standing size at k (drop k items) ≡ 0
 standing_none size at k items le = ap (standing size at k) (drop_all k items le)
@@ -75,5 +93,6 @@ standing_none size at k items le = ap (standing size at k) (drop_all k items le)
 pub bits_more : (test : ℕ → Bool) (n : ℕ) → bits test (n + 1) ≡ (if test n then 2 ^ n else 0) + bits test n
 bits_more test n = rw add-one refl
 
-pub nothing_left : {X : Type 0} (n : ℕ) (xs : List X) → (drop n xs ≡ drop n xs) × ((length xs ≤ n → drop n xs ≡ []) × (drop n xs ≡ [] → length xs ≤ n))
+pub nothing_left : {X : Type 0} (n : ℕ) (xs : List X)
+    → (drop n xs ≡ drop n xs) × ((length xs ≤ n → drop n xs ≡ []) × (drop n xs ≡ [] → length xs ≤ n))
 nothing_left n xs = (refl, ((λ le. drop_all n xs le), λ e. omega (arith, ap length e, length-drop n xs)))

@@ -25,7 +25,8 @@ sum_plus f g zero = refl
 sum_plus f g (suc n) = omega (arith, sum_plus f g n)
 
 -- a sum of sums, the other way round
-pub sum_swap : (f : ℕ → ℕ → ℕ) (n m : ℕ) → sum_below (λ a. sum_below (f a) m) n ≡ sum_below (λ b. sum_below (λ a. f a b) n) m
+pub sum_swap : (f : ℕ → ℕ → ℕ) (n m : ℕ)
+    → sum_below (λ a. sum_below (f a) m) n ≡ sum_below (λ b. sum_below (λ a. f a b) n) m
 sum_swap f zero m = sym (sum_zero m)
 sum_swap f (suc n) m = omega (arith, sum_swap f n m, sum_plus (f n) (λ b. sum_below (λ a. f a b) n) m)
 
@@ -59,18 +60,24 @@ sum_extend f n (suc r) le h =
     ]
 
 -- a multiple, with something more
-pub sum_more : (f g h : ℕ → ℕ) (n : ℕ) → ((k : ℕ) → k < n → 66 * f k ≡ 66 * g k + h k) → 66 * sum_below f n ≡ 66 * sum_below g n + sum_below h n
+pub sum_more : (f g h : ℕ → ℕ) (n : ℕ) → ((k : ℕ) → k < n → 66 * f k ≡ 66 * g k + h k)
+    → 66 * sum_below f n ≡ 66 * sum_below g n + sum_below h n
 sum_more f g h zero all = omega arith
 sum_more f g h (suc n) all = omega (arith, all n (omega arith), sum_more f g h n (λ k less. all k (omega arith)))
 
 -- a sum of terms that are each spread over a table and a row: by the cells of the table and of the row
 pub sum_regroup : (a : ℕ → ℕ → ℕ → ℕ) (b c : ℕ → ℕ → ℕ) (l m r n : ℕ)
     → sum_below (λ k. sum_below (λ i. sum_below (λ j. a i j k) m + b i k) l + sum_below (λ i. c i k) r) n
-    ≡ sum_below (λ i. sum_below (λ j. sum_below (λ k. a i j k) n) m + sum_below (λ k. b i k) n) l + sum_below (λ i. sum_below (λ k. c i k) n) r
+    ≡ sum_below (λ i. sum_below (λ j. sum_below (λ k. a i j k) n) m + sum_below (λ k. b i k) n) l
+    + sum_below (λ i. sum_below (λ k. c i k) n) r
 sum_regroup a b c l m r n =
     sum_plus (λ k. sum_below (λ i. sum_below (λ j. a i j k) m + b i k) l) (λ k. sum_below (λ i. c i k) r) n
-    ∙ ap (λ (s : ℕ). s + sum_below (λ k. sum_below (λ i. c i k) r) n) (sum_swap (λ k i. sum_below (λ j. a i j k) m + b i k) n l ∙ sum_same
+    ∙ ap (λ (s : ℕ). s + sum_below (λ k. sum_below (λ i. c i k) r) n)
+    (sum_swap (λ k i. sum_below (λ j. a i j k) m + b i k) n l ∙ sum_same
     (λ i. sum_below (λ k. sum_below (λ j. a i j k) m + b i k) n)
     (λ i. sum_below (λ j. sum_below (λ k. a i j k) n) m + sum_below (λ k. b i k) n) l
-    (λ i less. sum_plus (λ k. sum_below (λ j. a i j k) m) (λ k. b i k) n ∙ ap (λ (s : ℕ). s + sum_below (λ k. b i k) n) (sum_swap (λ k j. a i j k) n m)))
-    ∙ ap (λ (s : ℕ). sum_below (λ i. sum_below (λ j. sum_below (λ k. a i j k) n) m + sum_below (λ k. b i k) n) l + s) (sum_swap (λ k i. c i k) n r)
+    (λ i less.
+    sum_plus (λ k. sum_below (λ j. a i j k) m) (λ k. b i k) n
+    ∙ ap (λ (s : ℕ). s + sum_below (λ k. b i k) n) (sum_swap (λ k j. a i j k) n m)))
+    ∙ ap (λ (s : ℕ). sum_below (λ i. sum_below (λ j. sum_below (λ k. a i j k) n) m + sum_below (λ k. b i k) n) l + s)
+    (sum_swap (λ k i. c i k) n r)

@@ -29,17 +29,25 @@ TellsThrottle setting aged step before told feeder post function =
     × (step.act ≡ Look (PostWord feeder) (value_of setting.layout before (PostWord feeder)) (Some told))
     × IsEarnedThrottle setting aged before e told feeder post function
 
-throttle_parts : (k n p m : ℕ) (f g : FnId) → ◌≡◌ {A = Outcome} (Throttled k n f) (Throttled p m g) → (k ≡ p) × (n ≡ m) × (f ≡ g)
+throttle_parts : (k n p m : ℕ) (f g : FnId) → ◌≡◌ {A = Outcome} (Throttled k n f) (Throttled p m g)
+    → (k ≡ p) × (n ≡ m) × (f ≡ g)
 throttle_parts k n p m f g e = (cc, cc, cc)
 
-look_earned : (setting : Setting) (aged : ℕ → Ages) (step : Step) (before : History) (told : Record) (k seen : ℕ) (e : Entry) → IsLawful setting.layout (step ∷ before) → AllMarked setting aged before → step.act ≡ Look (PostWord k) seen (Some told) → (held : IsHeld setting e k seen told) → (step.act ≡ Look (PostWord k) (value_of setting.layout before (PostWord k)) (Some told)) × IsEarnedThrottle setting aged before e told k (seen / 2 ^ 32) held.function
+look_earned : (setting : Setting) (aged : ℕ → Ages) (step : Step) (before : History) (told : Record) (k seen : ℕ)
+    (e : Entry)
+    → IsLawful setting.layout (step ∷ before) → AllMarked setting aged before
+    → step.act ≡ Look (PostWord k) seen (Some told) → (held : IsHeld setting e k seen told)
+    → (step.act ≡ Look (PostWord k) (value_of setting.layout before (PostWord k)) (Some told))
+    × IsEarnedThrottle setting aged before e told k (seen / 2 ^ 32) held.function
 look_earned setting aged step before told k seen e lawful marked acts held =
-    let allowed : AllowsAct setting.layout before step.role (Look (PostWord k) seen (Some told)) = subst (AllowsAct setting.layout before step.role) acts lawful.0.allowed in
+    let allowed : AllowsAct setting.layout before step.role (Look (PostWord k) seen (Some told)) =
+    subst (AllowsAct setting.layout before step.role) acts lawful.0.allowed in
     let known : IsFeeder setting.layout k = allowed.known in
     let shows : seen ≡ value_of setting.layout before (PostWord k) = allowed.true_value in
     let marks : Marks = (standing setting k (log_of k before)).marks in
     let last : seen ≡ last_post marks = shows ∙ posted_is setting k before known lawful.1 in
-    let bit : has_bit (last_post marks) held.function ≡ true = subst (λ (n : ℕ). has_bit n held.function ≡ true) last (bit_of_set seen held.function held.raised.bit) in (
+    let bit : has_bit (last_post marks) held.function ≡ true =
+    subst (λ (n : ℕ). has_bit n held.function ≡ true) last (bit_of_set seen held.function held.raised.bit) in (
       acts ∙ ap (λ (n : ℕ). Look (PostWord k) n (Some told)) shows,
       record {
         seen = seen;
@@ -47,11 +55,16 @@ look_earned setting aged step before told k seen e lawful marked acts held =
         number = refl;
         held = held;
         names = refl;
-        raised = raised_now (aged k) held.function marks (marks_paid setting k (aged k) (log_of k before) (marked k known)) bit;
+        raised =
+            raised_now (aged k) held.function marks
+            (marks_paid setting k (aged k) (log_of k before) (marked k known)) bit;
       },
     )
 
-named_so : (setting : Setting) (aged : ℕ → Ages) (step : Step) (before : History) (told : Record) (k n p m : ℕ) (f g : FnId) → ◌≡◌ {A = Outcome} (Throttled k n f) (Throttled p m g) → TellsThrottle setting aged step before told k n f.0 → TellsThrottle setting aged step before told p m g.0
+named_so : (setting : Setting) (aged : ℕ → Ages) (step : Step) (before : History) (told : Record) (k n p m : ℕ)
+    (f g : FnId)
+    → ◌≡◌ {A = Outcome} (Throttled k n f) (Throttled p m g) → TellsThrottle setting aged step before told k n f.0
+    → TellsThrottle setting aged step before told p m g.0
 named_so setting aged step before told k n p m f g e h =
     let parts : (k ≡ p) × (n ≡ m) × (f ≡ g) = throttle_parts k n p m f g e in
     subst (λ (x : ℕ). TellsThrottle setting aged step before told x m g.0) parts.0
@@ -59,26 +72,46 @@ named_so setting aged step before told k n p m f g e h =
     (subst (λ (x : FnId). TellsThrottle setting aged step before told k n x.0) parts.2 h))
 
 -- each throttle is earned
-pub earned_throttle : (setting : Setting) (aged : ℕ → Ages) (step : Step) (before : History) (told : Record) (feeder post : ℕ) (function : FnId) → IsLawful setting.layout (step ∷ before) → AllOfBlocks setting (step ∷ before) → AllMarked setting aged before → recorded step.act ≡ told ∷ [] → told.outcome ≡ Throttled feeder post function → TellsThrottle setting aged step before told feeder post function.0
+pub earned_throttle : (setting : Setting) (aged : ℕ → Ages) (step : Step) (before : History) (told : Record)
+    (feeder post : ℕ) (function : FnId)
+    → IsLawful setting.layout (step ∷ before) → AllOfBlocks setting (step ∷ before) → AllMarked setting aged before
+    → recorded step.act ≡ told ∷ [] → told.outcome ≡ Throttled feeder post function
+    → TellsThrottle setting aged step before told feeder post function.0
 earned_throttle setting aged step before told feeder post function lawful blocks marked e is =
     elim (told_by setting step before told blocks e) [
       | inl (b, outcome, parcel, acts, of, gives, kind) ↦ absurd (subst Gives (sym of ∙ is) gives)
       | inr (word, seen, acts, (entry, done, found, inl (k, at, held))) ↦
-          let outcome_is : ◌≡◌ {A = Outcome} (Throttled k (seen / 2 ^ 32) (record { 0 = held.function })) (Throttled feeder post function) = sym (ap (λ (r : Record). r.outcome) held.told_is) ∙ is in
-          let look : step.act ≡ Look (PostWord k) seen (Some told) = acts ∙ ap (λ (w : Word). Look w seen (Some told)) at in
-          let earned : (step.act ≡ Look (PostWord k) (value_of setting.layout before (PostWord k)) (Some told)) × IsEarnedThrottle setting aged before entry told k (seen / 2 ^ 32) held.function = look_earned setting aged step before told k seen entry lawful marked look held in
-          named_so setting aged step before told k (seen / 2 ^ 32) feeder post (record { 0 = held.function }) function outcome_is
+          let outcome_is : ◌≡◌ {A = Outcome} (Throttled k (seen / 2 ^ 32) (record { 0 = held.function }))
+          (Throttled feeder post function)
+          = sym (ap (λ (r : Record). r.outcome) held.told_is) ∙ is in
+          let look : step.act ≡ Look (PostWord k) seen (Some told) =
+          acts ∙ ap (λ (w : Word). Look w seen (Some told)) at in
+          let earned : (step.act ≡ Look (PostWord k) (value_of setting.layout before (PostWord k)) (Some told))
+          × IsEarnedThrottle setting aged before entry told k (seen / 2 ^ 32) held.function
+          = look_earned setting aged step before told k seen entry lawful marked look held in
+          named_so setting aged step before told k (seen / 2 ^ 32) feeder post
+          (record { 0 = held.function }) function outcome_is
           (entry, done, found, ap (λ (r : Record). r.frame) held.told_is, earned.0, earned.1)
-      | inr (word, seen, acts, (entry, done, found, inr (k, at, lost, ends))) ↦ absurd (not_throttled_empty told feeder post function is (ap (λ (r : Record). r.outcome) lost.told_is))
+      | inr (word, seen, acts, (entry, done, found, inr (k, at, lost, ends))) ↦
+          absurd (not_throttled_empty told feeder post function is (ap (λ (r : Record). r.outcome) lost.told_is))
     ]
 
 -- each mark is cleared by the pass that doesn't find low
-pub marks_cleared : (setting : Setting) (aged : ℕ → Ages) (past : History) (feeder f : ℕ) → AllMarked setting aged past → IsFeeder setting.layout feeder → Clears f (standing setting feeder (log_of feeder past)).marks
-marks_cleared setting aged past feeder f marked known = cleared (aged feeder) f (standing setting feeder (log_of feeder past)).marks (marks_paid setting feeder (aged feeder) (log_of feeder past) (marked feeder known))
+pub marks_cleared : (setting : Setting) (aged : ℕ → Ages) (past : History) (feeder f : ℕ)
+    → AllMarked setting aged past → IsFeeder setting.layout feeder
+    → Clears f (standing setting feeder (log_of feeder past)).marks
+marks_cleared setting aged past feeder f marked known =
+    cleared (aged feeder) f (standing setting feeder (log_of feeder past)).marks
+    (marks_paid setting feeder (aged feeder) (log_of feeder past) (marked feeder known))
 
-pub marks_cleared_at_once : (setting : Setting) (aged : ℕ → Ages) (past : History) (feeder f : ℕ) → AllMarked setting aged past → IsFeeder setting.layout feeder → ClearsAtOnce setting feeder f (log_of feeder past)
-marks_cleared_at_once setting aged past feeder f marked known = cleared_at_once setting feeder (aged feeder) f (log_of feeder past) (marked feeder known)
+pub marks_cleared_at_once : (setting : Setting) (aged : ℕ → Ages) (past : History) (feeder f : ℕ)
+    → AllMarked setting aged past → IsFeeder setting.layout feeder
+    → ClearsAtOnce setting feeder f (log_of feeder past)
+marks_cleared_at_once setting aged past feeder f marked known =
+    cleared_at_once setting feeder (aged feeder) f (log_of feeder past) (marked feeder known)
 
 -- the word has the last post of the marks
-pub word_posted : (setting : Setting) (past : History) (feeder : ℕ) → IsLawful setting.layout past → IsFeeder setting.layout feeder → value_of setting.layout past (PostWord feeder) ≡ last_post (standing setting feeder (log_of feeder past)).marks
+pub word_posted : (setting : Setting) (past : History) (feeder : ℕ)
+    → IsLawful setting.layout past → IsFeeder setting.layout feeder
+    → value_of setting.layout past (PostWord feeder) ≡ last_post (standing setting feeder (log_of feeder past)).marks
 word_posted setting past feeder lawful known = posted_is setting feeder past known lawful

@@ -1,14 +1,12 @@
 -- The crumbs of each parcel lead from the captured bytes to its own.
-use Rattle.std.proofs.Common.{◌≡◌, ℕ, ◌+◌, ◌-◌, ◌≤◌, zero, suc, Bool, true, false, ◌⊎◌, inl, inr, List, [], ◌∷◌, ◌++◌, length, refl, sym, ◌∙◌, ap, subst, arith, Option, Some, None}
-use Rattle.std.specs.Prelude.{slice_get, if◌then◌else◌, ◌==◌}
+use Rattle.std.proofs.Common.{◌≡◌, ℕ, ◌+◌, ◌≤◌, ◌⊎◌, inl, inr, List, [], ◌∷◌, ◌++◌, length, refl, sym, ◌∙◌, ap, subst, arith, Option, Some, None}
+use Rattle.std.specs.Prelude.{slice_get, ◌==◌}
 use Rattle.std.proofs.lemmas.Bool.{cases_Bool, eq-eqb}
 use Rattle.onvm_base.specs.declared.ids.RingId.{RingId}
 use Rattle.onvm_base.specs.declared.ids.BufId.{BufId}
 use Rattle.onvm_base.specs.declared.ids.FnId.{FnId}
-use Rattle.std.proofs.lemmas.List.{length_push, append-nil}
 use Rattle.onvm_base.specs.declared.ids.FrameId.{FrameId}
 use Rattle.onvm_core.specs.declared.parcel.Parcel.{Parcel}
-use Rattle.onvm_core.specs.declared.step.Item.{Item}
 use Rattle.onvm_core.specs.declared.step.Item.TheVariants.{Buffer, Number}
 use Rattle.onvm_core.specs.declared.step.Act.{Act}
 use Rattle.onvm_core.specs.declared.step.Act.TheVariants.{Split, Join, Take, Give, Push, Full, Pop, Empty, Look, Post}
@@ -18,11 +16,11 @@ use Rattle.onvm_core.specs.History.{History, pushed_on, popped_from}
 use Rattle.onvm_core.specs.Lawful.{AllowsAct, IsLawful}
 use Rattle.onvm_core.specs.Logs.{Setting, Log, log_of, Hand, frame_after, entry_parcel, IsHandled, push_count, last_crumb, moved_to}
 use Rattle.onvm_core.specs.Receiving.{ReceivePhase, receive_phase, done_in, MayReceiveFor}
-use Rattle.onvm_core.specs.Handling.{core_hand, handles, MayHandle, crumb_place}
+use Rattle.onvm_core.specs.Handling.{core_hand, MayHandle, crumb_place}
 use Rattle.onvm_core.specs.Sending.{SendPhase, send_phase, MaySend}
 use Rattle.onvm_core.specs.Blocks.{Kind, kind_of, IsOfBlocks, AllOfBlocks}
 use Rattle.onvm_core.specs.Frames.{Load, load, load_after, block_frame}
-use Rattle.onvm_core.specs.Journals.{Handling, LeadsTo, IsTraced, Names, HasShortJournals, journal, journal_of, handlings, verdict_in, last_popped, popped_or}
+use Rattle.onvm_core.specs.Journals.{Handling, LeadsTo, IsTraced, Names, HasShortJournals, journal, journal_of, handlings, verdict_in, last_popped}
 use Rattle.onvm_base.specs.declared.outcome.Outcome.{Outcome}
 use Rattle.onvm_base.specs.declared.outcome.Outcome.TheVariants.{Sent, Dropped, Throttled, RingFull, PoolEmpty}
 use Rattle.onvm_base.specs.declared.ids.RingId.TheVariants.{Lane, Output, Mail}
@@ -39,125 +37,72 @@ use Rattle.std.specs.Prelude.{min}
 use Rattle.std.proofs.lemmas.Option.{slice_get_within}
 use Rattle.onvm_core.proofs.Hands.{HasHand, HasSend, core_has, send_has}
 use Rattle.onvm_core.proofs.Balance.{own_blocks, blocks_before}
-
--- Lists
-
-get_more : {A : Type 0} (xs ys : List A) (k : ℕ) (x : A) → slice_get xs k ≡ Some x → slice_get (xs ++ ys) k ≡ Some x
-get_more [] ys k x e = absurd (cc)
-get_more (y ∷ xs) ys zero x e = e
-get_more (y ∷ xs) ys (suc k) x e = get_more xs ys k x e
-
-get_last : {A : Type 0} (xs : List A) (x : A) → slice_get (xs ++ x ∷ []) (length xs) ≡ Some x
-get_last [] x = refl
-get_last (y ∷ xs) x = get_last xs x
-
-last_of_push : (trail : List Crumb) (crumb : Crumb) → last_crumb (trail ++ crumb ∷ []) ≡ Some crumb
-last_of_push trail crumb =
-    let n : length (trail ++ crumb ∷ []) - 1 ≡ length trail = omega (arith, length_push trail crumb) in
-    rw n (get_last trail crumb)
+use Rattle.onvm_core.proofs.Lists.{get_front, get_last, last_of_push}
+use Rattle.onvm_core.proofs.Counted.{popped_in_hand, journal_length}
 
 -- Trails
 
-leads_more : (few many : FnId → List Handling) (frame : FrameId) (input : List ℕ) (trail : List Crumb) (output : List ℕ) → ((f : FnId) (k : ℕ) (h : Handling) → slice_get (few f) k ≡ Some h → slice_get (many f) k ≡ Some h) → LeadsTo few frame input trail output → LeadsTo many frame input trail output
+leads_more : (few many : FnId → List Handling) (frame : FrameId) (input : List ℕ) (trail : List Crumb) (output : List ℕ)
+    → ((f : FnId) (k : ℕ) (h : Handling) → slice_get (few f) k ≡ Some h → slice_get (many f) k ≡ Some h)
+    → LeadsTo few frame input trail output
+    → LeadsTo many frame input trail output
 leads_more few many frame input [] output grows leads = leads
-leads_more few many frame input (crumb ∷ crumbs) output grows leads =
-    (leads.0, grows crumb.function crumb.place leads.0 leads.1, leads.2, leads.3, leads.4, leads_more few many frame leads.0.bytes crumbs output grows leads.5)
+leads_more few many frame input (crumb ∷ crumbs) output grows leads = (
+  leads.0,
+  grows crumb.function crumb.place leads.0 leads.1,
+  leads.2,
+  leads.3,
+  leads.4,
+  leads_more few many frame leads.0.bytes crumbs output grows leads.5,
+)
 
-leads_on : (journals : FnId → List Handling) (frame : FrameId) (input : List ℕ) (trail : List Crumb) (middle output : List ℕ) (crumb : Crumb) (h : Handling) → LeadsTo journals frame input trail middle → slice_get (journals crumb.function) crumb.place ≡ Some h → h.before.frame ≡ frame → h.verdict ≡ crumb.verdict → h.before.packet ≡ middle → output ≡ h.bytes → LeadsTo journals frame input (trail ++ crumb ∷ []) output
-leads_on journals frame input [] middle output crumb h leads found of verdict bytes last = (h, found, of, verdict, bytes ∙ leads, last)
-leads_on journals frame input (c ∷ cs) middle output crumb h leads found of verdict bytes last =
-    (leads.0, leads.1, leads.2, leads.3, leads.4, leads_on journals frame leads.0.bytes cs middle output crumb h leads.5 found of verdict bytes last)
+leads_on : (journals : FnId → List Handling) (frame : FrameId) (input : List ℕ) (trail : List Crumb)
+    (middle output : List ℕ) (crumb : Crumb) (h : Handling)
+    → LeadsTo journals frame input trail middle → slice_get (journals crumb.function) crumb.place ≡ Some h
+    → h.before.frame ≡ frame → h.verdict ≡ crumb.verdict → h.before.packet ≡ middle → output ≡ h.bytes
+    → LeadsTo journals frame input (trail ++ crumb ∷ []) output
+leads_on journals frame input [] middle output crumb h leads found of verdict bytes last =
+    (h, found, of, verdict, bytes ∙ leads, last)
+leads_on journals frame input (c ∷ cs) middle output crumb h leads found of verdict bytes last = (
+  leads.0,
+  leads.1,
+  leads.2,
+  leads.3,
+  leads.4,
+  leads_on journals frame leads.0.bytes cs middle output crumb h leads.5 found of verdict bytes last,
+)
 
 -- journals only grow
-journal_grows : (setting : Setting) (step : Step) (before : History) (f : FnId) (k : ℕ) (h : Handling) → slice_get (journal_of setting before f) k ≡ Some h → slice_get (journal_of setting (step ∷ before) f) k ≡ Some h
+journal_grows : (setting : Setting) (step : Step) (before : History) (f : FnId) (k : ℕ) (h : Handling)
+    → slice_get (journal_of setting before f) k ≡ Some h
+    → slice_get (journal_of setting (step ∷ before) f) k ≡ Some h
 journal_grows setting step before f k h e =
     elim (cases_Bool (step.role == core_role setting.layout f.0)) [
-      | inl met ↦ rw met (get_more (journal_of setting before f) (handlings f step.act (log_of (core_role setting.layout f.0) before)) k h e)
+      | inl met ↦
+          rw met (get_front (journal_of setting before f)
+          (handlings f step.act (log_of (core_role setting.layout f.0) before)) k h e)
       | inr unmet ↦ rw unmet e
     ]
 
-traced_on : (setting : Setting) (step : Step) (before : History) (parcel : Parcel) → IsTraced setting before parcel → IsTraced setting (step ∷ before) parcel
+traced_on : (setting : Setting) (step : Step) (before : History) (parcel : Parcel) → IsTraced setting before parcel
+    → IsTraced setting (step ∷ before) parcel
 traced_on setting step before parcel traced = record {
   entry = traced.entry;
   port = traced.port;
   done = traced.done;
   captured = traced.captured;
   frame = traced.frame;
-  leads = leads_more (journal_of setting before) (journal_of setting (step ∷ before)) parcel.frame traced.entry.packet parcel.trail parcel.packet (journal_grows setting step before) traced.leads;
+  leads =
+      leads_more (journal_of setting before)
+      (journal_of setting (step ∷ before)) parcel.frame traced.entry.packet parcel.trail parcel.packet
+      (journal_grows setting step before) traced.leads;
 }
-
-some_hand : (a b : Hand) → Some a ≡ Some b → a ≡ b
-some_hand a b e = cc
-
--- a core pops nothing while it has a parcel in hand
-kept_hand : (setting : Setting) (role : ℕ) (before : Log) (act : Act) (buf : ℕ) (hand : Hand) → MayHandle setting role before act → handles act (core_hand before) ≡ Some hand → hand.buf ≡ buf → (core_hand before ≡ Some hand → last_popped buf before ≡ Some hand.parcel) → popped_or buf act (last_popped buf before) ≡ Some hand.parcel
-kept_hand setting role before (Pop (Lane f p) (Buffer b parcel)) buf hand may e of earlier =
-    let same : record { function = f; buf = b.0; parcel = parcel } ≡ hand = some_hand (record { function = f; buf = b.0; parcel = parcel }) hand e in
-    rw (eq-eqb b.0 buf (ap (λ (h : Hand). h.buf) same ∙ of)) (ap (λ (h : Hand). Some h.parcel) same)
-kept_hand setting role before (Pop (Lane f p) (Number n)) buf hand may e of earlier = absurd may
-kept_hand setting role before (Pop (Output f) i) buf hand may e of earlier = absurd may
-kept_hand setting role before (Pop (Mail f) i) buf hand may e of earlier = absurd may
-kept_hand setting role before (Push (Output f) i) buf hand may e of earlier = absurd (let off : None ≡ Some hand = e in cc)
-kept_hand setting role before (Push (Lane f p) i) buf hand may e of earlier = earlier e
-kept_hand setting role before (Push (Mail f) i) buf hand may e of earlier = earlier e
-kept_hand setting role before (Take b) buf hand may e of earlier = earlier e
-kept_hand setting role before (Give b outcome parcel) buf hand may e of earlier = earlier e
-kept_hand setting role before (Split a) buf hand may e of earlier = earlier e
-kept_hand setting role before (Join a) buf hand may e of earlier = earlier e
-kept_hand setting role before (Full r) buf hand may e of earlier = earlier e
-kept_hand setting role before (Empty a) buf hand may e of earlier = earlier e
-kept_hand setting role before (Look w v t) buf hand may e of earlier = earlier e
-kept_hand setting role before (Post a b) buf hand may e of earlier = earlier e
-
--- the parcel in hand is the one with which its buffer was last popped
-popped_in_hand : (setting : Setting) (role : ℕ) (log : Log) (buf : ℕ) (hand : Hand) → IsKind setting role Handles log → core_hand log ≡ Some hand → hand.buf ≡ buf → last_popped buf log ≡ Some hand.parcel
-popped_in_hand setting role [] buf hand kind e of = absurd (let off : None ≡ Some hand = e in cc)
-popped_in_hand setting role (act ∷ before) buf hand kind e of =
-    kept_hand setting role before act buf hand kind.0 e of (λ was. popped_in_hand setting role before buf hand kind.1 was of)
-
--- a journal has an entry for each push on the output ring
-one_handling : (f g : FnId) (setting : Setting) (role : ℕ) (before : Log) (item : Item) → IsKind setting role Handles before → MayHandle setting role before (Push (Output g) item) → length (handlings f (Push (Output g) item) before) ≡ (if g.0 == f.0 then 1 else 0)
-one_handling f g setting role before (Buffer b parcel) kind may =
-    let was : last_popped b.0 before ≡ Some may.hand.parcel = popped_in_hand setting role before b.0 may.hand kind may.held may.same in
-    elim (cases_Bool (g.0 == f.0)) [ inl met ↦ rw (met, was) refl | inr unmet ↦ rw unmet refl ]
-one_handling f g setting role before (Number n) kind may = absurd may
-
-cond_met : (b : Bool) (x y : ℕ) → b ≡ true → (if b then x else y) ≡ x
-cond_met b x y e = rw e refl
-
-cond_unmet : (b : Bool) (x y : ℕ) → b ≡ false → (if b then x else y) ≡ y
-cond_unmet b x y e = rw e refl
-
-journal_step : (f : FnId) (setting : Setting) (role : ℕ) (before : Log) (act : Act) → IsKind setting role Handles before → MayHandle setting role before act → length (journal f before) ≡ push_count (Output f) before → length (journal f (act ∷ before)) ≡ push_count (Output f) (act ∷ before)
-journal_step f setting role before (Push (Output g) item) kind may e =
-    let more : length (handlings f (Push (Output g) item) before) ≡ (if g.0 == f.0 then 1 else 0) = one_handling f g setting role before item kind may in
-    let all : length (journal f (Push (Output g) item ∷ before)) ≡ length (journal f before) + length (handlings f (Push (Output g) item) before) = length-append (journal f before) (handlings f (Push (Output g) item) before) in
-    elim (cases_Bool (g.0 == f.0)) [
-      | inl met ↦ let one : length (handlings f (Push (Output g) item) before) ≡ 1 = more ∙ cond_met (g.0 == f.0) 1 0 met in
-          let now : push_count (Output f) (Push (Output g) item ∷ before) ≡ push_count (Output f) before + 1 = rw met refl in omega (arith, all, one, e, now)
-      | inr unmet ↦ let none : length (handlings f (Push (Output g) item) before) ≡ 0 = more ∙ cond_unmet (g.0 == f.0) 1 0 unmet in
-          let now : push_count (Output f) (Push (Output g) item ∷ before) ≡ push_count (Output f) before = rw unmet refl in omega (arith, all, none, e, now)
-    ]
-journal_step f setting role before (Take b) kind may e = ap length (append-nil (journal f before)) ∙ e
-journal_step f setting role before (Give b outcome parcel) kind may e = ap length (append-nil (journal f before)) ∙ e
-journal_step f setting role before (Push (Lane g p) i) kind may e = ap length (append-nil (journal f before)) ∙ e
-journal_step f setting role before (Push (Mail g) i) kind may e = ap length (append-nil (journal f before)) ∙ e
-journal_step f setting role before (Pop r i) kind may e = ap length (append-nil (journal f before)) ∙ e
-journal_step f setting role before (Split a) kind may e = ap length (append-nil (journal f before)) ∙ e
-journal_step f setting role before (Join a) kind may e = ap length (append-nil (journal f before)) ∙ e
-journal_step f setting role before (Full r) kind may e = ap length (append-nil (journal f before)) ∙ e
-journal_step f setting role before (Empty a) kind may e = ap length (append-nil (journal f before)) ∙ e
-journal_step f setting role before (Look w v t) kind may e = ap length (append-nil (journal f before)) ∙ e
-journal_step f setting role before (Post a b) kind may e = ap length (append-nil (journal f before)) ∙ e
-
-journal_length : (f : FnId) (setting : Setting) (role : ℕ) (log : Log) → IsKind setting role Handles log → length (journal f log) ≡ push_count (Output f) log
-journal_length f setting role [] h = refl
-journal_length f setting role (act ∷ before) h = journal_step f setting role before act h.1 h.0 (journal_length f setting role before h.1)
 
 -- Where a pushed parcel comes from
 
 abbrev Enters : Setting → Parcel → Type 0
-Enters setting parcel = (e : Entry) × (port : ℕ) × (done : ℕ) × (frame_after setting port done ≡ Some e) × (parcel ≡ entry_parcel e)
+Enters setting parcel =
+    (e : Entry) × (port : ℕ) × (done : ℕ) × (frame_after setting port done ≡ Some e) × (parcel ≡ entry_parcel e)
 
 record Handled (own : Option (ℕ × Load)) (log : Log) (ring : RingId) (b : BufId) (parcel : Parcel) : Type 0 where
   function : FnId
@@ -169,12 +114,19 @@ record Handled (own : Option (ℕ × Load)) (log : Log) (ring : RingId) (b : Buf
   handled : IsHandled function (crumb_place function log) hand.parcel parcel
 
 abbrev Moved : Option (ℕ × Load) → BufId → Parcel → Type 0
-Moved own b parcel = (was : Parcel) × (own ≡ Some (b.0, Loaded was)) × (parcel.frame ≡ was.frame) × (parcel.trail ≡ was.trail) × (parcel.packet ≡ was.packet)
+Moved own b parcel =
+    (was : Parcel) × (own ≡ Some (b.0, Loaded was)) × (parcel.frame ≡ was.frame) × (parcel.trail ≡ was.trail)
+    × (parcel.packet ≡ was.packet)
 
 abbrev ComesFrom : Setting → Kind → Option (ℕ × Load) → Log → RingId → BufId → Parcel → Type 0
-ComesFrom setting kind own log ring b parcel = Enters setting parcel ⊎ (((kind ≡ Handles) × Handled own log ring b parcel) ⊎ Moved own b parcel)
+ComesFrom setting kind own log ring b parcel =
+    Enters setting parcel ⊎ (((kind ≡ Handles) × Handled own log ring b parcel) ⊎ Moved own b parcel)
 
-comes_receive : (setting : Setting) (port : ℕ) (e : Entry) (phase : ReceivePhase) (ring : RingId) (b : BufId) (parcel : Parcel) → frame_after setting port (done_in phase) ≡ Some e → MayReceiveFor setting port e phase (Push ring (Buffer b parcel)) → Enters setting parcel
+comes_receive : (setting : Setting) (port : ℕ) (e : Entry) (phase : ReceivePhase) (ring : RingId) (b : BufId)
+    (parcel : Parcel)
+    → frame_after setting port (done_in phase) ≡ Some e
+    → MayReceiveFor setting port e phase (Push ring (Buffer b parcel))
+    → Enters setting parcel
 comes_receive setting port e (Took done buf) ring b parcel found may = (e, port, done, found, may.1)
 comes_receive setting port e (Between done) ring b parcel found may = absurd may
 comes_receive setting port e (Asks done k) ring b parcel found may = absurd may
@@ -182,71 +134,122 @@ comes_receive setting port e (Seeks done k) ring b parcel found may = absurd may
 comes_receive setting port e (Sees done index seen) ring b parcel found may = absurd may
 comes_receive setting port e (Barred done buf r) ring b parcel found may = absurd may
 
-comes_core : (setting : Setting) (role : ℕ) (log : Log) (own : Option (ℕ × Load)) (ring : RingId) (b : BufId) (parcel : Parcel) → HasHand own (core_hand log) → MayHandle setting role log (Push ring (Buffer b parcel)) → Handled own log ring b parcel
-comes_core setting role log own (Output f) b parcel h may = record { function = f; hand = may.hand; ring_is = refl; held_is = may.held; same = may.same; owns = subst (HasHand own) may.held h ∙ ap (λ (n : ℕ). Some (n, Loaded may.hand.parcel)) may.same; handled = may.handled }
+comes_core : (setting : Setting) (role : ℕ) (log : Log) (own : Option (ℕ × Load)) (ring : RingId) (b : BufId)
+    (parcel : Parcel) → HasHand own (core_hand log) → MayHandle setting role log (Push ring (Buffer b parcel))
+    → Handled own log ring b parcel
+comes_core setting role log own (Output f) b parcel h may =
+    record {
+      function = f;
+      hand = may.hand;
+      ring_is = refl;
+      held_is = may.held;
+      same = may.same;
+      owns = subst (HasHand own) may.held h ∙ ap (λ (n : ℕ). Some (n, Loaded may.hand.parcel)) may.same;
+      handled = may.handled;
+    }
 comes_core setting role log own (Lane f p) b parcel h may = absurd may
 comes_core setting role log own (Mail f) b parcel h may = absurd may
 
-comes_send : (setting : Setting) (feeder : ℕ) (phase : SendPhase) (own : Option (ℕ × Load)) (ring : RingId) (b : BufId) (parcel : Parcel) → HasSend own phase → MaySend setting feeder phase (Push ring (Buffer b parcel)) → Moved own b parcel
+comes_send : (setting : Setting) (feeder : ℕ) (phase : SendPhase) (own : Option (ℕ × Load)) (ring : RingId)
+    (b : BufId) (parcel : Parcel) → HasSend own phase → MaySend setting feeder phase (Push ring (Buffer b parcel))
+    → Moved own b parcel
 comes_send setting feeder Free own ring b parcel h may = absurd may
-comes_send setting feeder (Sending hand) own ring b parcel h may =
-    (hand.parcel, h ∙ ap (λ (n : ℕ). Some (n, Loaded hand.parcel)) (sym may.0), ap (λ (p : Parcel). p.frame) may.1.2, ap (λ (p : Parcel). p.trail) may.1.2, ap (λ (p : Parcel). p.packet) may.1.2)
+comes_send setting feeder (Sending hand) own ring b parcel h may = (
+  hand.parcel,
+  h ∙ ap (λ (n : ℕ). Some (n, Loaded hand.parcel)) (sym may.0),
+  ap (λ (p : Parcel). p.frame) may.1.2,
+  ap (λ (p : Parcel). p.trail) may.1.2,
+  ap (λ (p : Parcel). p.packet) may.1.2,
+)
 comes_send setting feeder (TurnsBack hand r) own ring b parcel h may = absurd may
 
-comes_from : (setting : Setting) (role : ℕ) (kind : Kind) (log : Log) (ring : RingId) (b : BufId) (parcel : Parcel) → IsKind setting role kind (Push ring (Buffer b parcel) ∷ log) → ComesFrom setting kind (own_load setting role log) log ring b parcel
+comes_from : (setting : Setting) (role : ℕ) (kind : Kind) (log : Log) (ring : RingId) (b : BufId) (parcel : Parcel)
+    → IsKind setting role kind (Push ring (Buffer b parcel) ∷ log)
+    → ComesFrom setting kind (own_load setting role log) log ring b parcel
 comes_from setting role Receives log ring b parcel h =
     elim h.0 [
       | inl mark ↦ absurd mark.1
       | inr block ↦ inl (comes_receive setting role block.0 (receive_phase setting log) ring b parcel block.1 block.2)
     ]
-comes_from setting role Sends log ring b parcel h = inr (inr (comes_send setting role (send_phase log) (own_load setting role log) ring b parcel (send_has setting role log h.1) h.0))
-comes_from setting role Handles log ring b parcel h = inr (inl (refl, comes_core setting role log (own_load setting role log) ring b parcel (core_has setting role log h.1) h.0))
+comes_from setting role Sends log ring b parcel h =
+    inr (inr (comes_send setting role (send_phase log) (own_load setting role log) ring b parcel
+    (send_has setting role log h.1) h.0))
+comes_from setting role Handles log ring b parcel h =
+    inr (inl (
+      refl,
+      comes_core setting role log (own_load setting role log) ring b parcel (core_has setting role log h.1) h.0,
+    ))
 comes_from setting role Ticks log ring b parcel h = absurd h.0
 comes_from setting role Leads log ring b parcel h = absurd h.0
 
-log_on : (role : ℕ) (step : Step) (before : History) (act : Act) → step.act ≡ act → step.role ≡ role → log_of role (step ∷ before) ≡ act ∷ log_of step.role before
-log_on role step before act acts same = rw (eq-eqb step.role role same, acts) (ap (λ (n : ℕ). act ∷ log_of n before) (sym same))
+log_on : (role : ℕ) (step : Step) (before : History) (act : Act) → step.act ≡ act → step.role ≡ role
+    → log_of role (step ∷ before) ≡ act ∷ log_of step.role before
+log_on role step before act acts same =
+    rw (eq-eqb step.role role same, acts) (ap (λ (n : ℕ). act ∷ log_of n before) (sym same))
 
 -- a trail with one more crumb, whose entry the journal has
-extended : (setting : Setting) (past : History) (was parcel : Parcel) (crumb : Crumb) (h : Handling) → IsTraced setting past was → slice_get (journal_of setting past crumb.function) crumb.place ≡ Some h → h.before ≡ was → h.verdict ≡ crumb.verdict → parcel.packet ≡ h.bytes → parcel.frame ≡ was.frame → parcel.trail ≡ was.trail ++ crumb ∷ [] → IsTraced setting past parcel
+extended : (setting : Setting) (past : History) (was parcel : Parcel) (crumb : Crumb) (h : Handling)
+    → IsTraced setting past was → slice_get (journal_of setting past crumb.function) crumb.place ≡ Some h
+    → h.before ≡ was → h.verdict ≡ crumb.verdict → parcel.packet ≡ h.bytes → parcel.frame ≡ was.frame
+    → parcel.trail ≡ was.trail ++ crumb ∷ []
+    → IsTraced setting past parcel
 extended setting past was parcel crumb h traced found of verdict bytes frame trail = record {
   entry = traced.entry;
   port = traced.port;
   done = traced.done;
   captured = traced.captured;
   frame = traced.frame ∙ sym frame;
-  leads = rw (trail, frame) (leads_on (journal_of setting past) was.frame traced.entry.packet was.trail was.packet parcel.packet crumb h traced.leads found (ap (λ (p : Parcel). p.frame) of) verdict (ap (λ (p : Parcel). p.packet) of) bytes);
+  leads =
+      rw (trail, frame) (leads_on
+      (journal_of setting past) was.frame traced.entry.packet was.trail was.packet parcel.packet crumb h traced.leads
+      found
+      (ap (λ (p : Parcel). p.frame) of) verdict (ap (λ (p : Parcel). p.packet) of) bytes);
 }
 
 -- the entry that a push on an output ring adds to the journal
-entry_added : (f : FnId) (log : Log) (b : BufId) (parcel was : Parcel) (n : ℕ) → last_popped b.0 log ≡ Some was → length (journal f log) ≡ n → slice_get (journal f (Push (Output f) (Buffer b parcel) ∷ log)) n ≡ Some (record { before = was; verdict = verdict_in (last_crumb parcel.trail); bytes = parcel.packet })
+entry_added : (f : FnId) (log : Log) (b : BufId) (parcel was : Parcel) (n : ℕ)
+    → last_popped b.0 log ≡ Some was → length (journal f log) ≡ n
+    → slice_get (journal f (Push (Output f) (Buffer b parcel) ∷ log)) n
+    ≡ Some (record { before = was; verdict = verdict_in (last_crumb parcel.trail); bytes = parcel.packet })
 entry_added f log b parcel was n has long =
     let h : Handling = record { before = was; verdict = verdict_in (last_crumb parcel.trail); bytes = parcel.packet } in
     let added : handlings f (Push (Output f) (Buffer b parcel)) log ≡ h ∷ [] = rw (eq-eqb f.0 f.0 refl, has) refl in
     subst (λ (k : ℕ). slice_get (journal f log ++ handlings f (Push (Output f) (Buffer b parcel)) log) k ≡ Some h) long
-    (subst (λ (hs : List Handling). slice_get (journal f log ++ hs) (length (journal f log)) ≡ Some h) (sym added) (get_last (journal f log) h))
+    (subst (λ (hs : List Handling). slice_get (journal f log ++ hs) (length (journal f log)) ≡ Some h) (sym added)
+    (get_last (journal f log) h))
 
 -- the verdict of the last crumb
-verdict_added : (trail before : List Crumb) (crumb : Crumb) → trail ≡ before ++ crumb ∷ [] → verdict_in (last_crumb trail) ≡ crumb.verdict
-verdict_added trail before crumb e = ap (λ (t : List Crumb). verdict_in (last_crumb t)) e ∙ ap verdict_in (last_of_push before crumb)
+verdict_added : (trail before : List Crumb) (crumb : Crumb) → trail ≡ before ++ crumb ∷ []
+    → verdict_in (last_crumb trail) ≡ crumb.verdict
+verdict_added trail before crumb e =
+    ap (λ (t : List Crumb). verdict_in (last_crumb t)) e ∙ ap verdict_in (last_of_push before crumb)
 
 -- the parcel that a function pushed is traced where the popped one was
-handled_traced : (setting : Setting) (step : Step) (before : History) (f : FnId) (hand : Hand) (b : BufId) (parcel : Parcel) (n : ℕ) → step.act ≡ Push (Output f) (Buffer b parcel) → step.role ≡ core_role setting.layout f.0 → last_popped b.0 (log_of step.role before) ≡ Some hand.parcel → length (journal f (log_of step.role before)) ≡ n → IsHandled f n hand.parcel parcel → IsTraced setting before hand.parcel → IsTraced setting (step ∷ before) parcel
+handled_traced : (setting : Setting) (step : Step) (before : History) (f : FnId) (hand : Hand) (b : BufId)
+    (parcel : Parcel) (n : ℕ)
+    → step.act ≡ Push (Output f) (Buffer b parcel) → step.role ≡ core_role setting.layout f.0
+    → last_popped b.0 (log_of step.role before) ≡ Some hand.parcel → length (journal f (log_of step.role before)) ≡ n
+    → IsHandled f n hand.parcel parcel → IsTraced setting before hand.parcel
+    → IsTraced setting (step ∷ before) parcel
 handled_traced setting step before f hand b parcel n acts role has long handled traced =
     extended setting (step ∷ before) hand.parcel parcel
     (record { function = f; place = n; verdict = handled.verdict })
     (record { before = hand.parcel; verdict = verdict_in (last_crumb parcel.trail); bytes = parcel.packet })
     (traced_on setting step before hand.parcel traced)
-    (subst (λ (l : Log). slice_get (journal f l) n ≡ Some (record { before = hand.parcel; verdict = verdict_in (last_crumb parcel.trail); bytes = parcel.packet }))
+    (subst (λ (l : Log). slice_get (journal f l) n
+    ≡ Some (record { before = hand.parcel; verdict = verdict_in (last_crumb parcel.trail); bytes = parcel.packet }))
     (sym (log_on (core_role setting.layout f.0) step before (Push (Output f) (Buffer b parcel)) acts role))
     (entry_added f (log_of step.role before) b parcel hand.parcel n has long))
     refl
-    (verdict_added parcel.trail hand.parcel.trail (record { function = f; place = n; verdict = handled.verdict }) (ap (λ (p : Parcel). p.trail) handled.same))
+    (verdict_added parcel.trail hand.parcel.trail (record { function = f; place = n; verdict = handled.verdict })
+    (ap (λ (p : Parcel). p.trail) handled.same))
     refl
     (ap (λ (p : Parcel). p.frame) handled.same)
     (ap (λ (p : Parcel). p.trail) handled.same)
 
-moved_traced : (setting : Setting) (past : History) (was parcel : Parcel) → parcel.frame ≡ was.frame → parcel.trail ≡ was.trail → parcel.packet ≡ was.packet → IsTraced setting past was → IsTraced setting past parcel
+moved_traced : (setting : Setting) (past : History) (was parcel : Parcel)
+    → parcel.frame ≡ was.frame → parcel.trail ≡ was.trail → parcel.packet ≡ was.packet → IsTraced setting past was
+    → IsTraced setting past parcel
 moved_traced setting past was parcel frame trail packet traced = record {
   entry = traced.entry;
   port = traced.port;
@@ -256,7 +259,8 @@ moved_traced setting past was parcel frame trail packet traced = record {
   leads = rw (frame, trail, packet) traced.leads;
 }
 
-entered_traced : (setting : Setting) (past : History) (parcel : Parcel) → Enters setting parcel → IsTraced setting past parcel
+entered_traced : (setting : Setting) (past : History) (parcel : Parcel) → Enters setting parcel
+    → IsTraced setting past parcel
 entered_traced setting past parcel enters = record {
   entry = enters.0;
   port = enters.1;
@@ -267,60 +271,120 @@ entered_traced setting past parcel enters = record {
 }
 
 -- the place of an entry that a short journal gets fits a crumb
-entry_fits : (setting : Setting) (step : Step) (before : History) (f : FnId) (b : BufId) (parcel was : Parcel) → step.act ≡ Push (Output f) (Buffer b parcel) → step.role ≡ core_role setting.layout f.0 → last_popped b.0 (log_of step.role before) ≡ Some was → length (journal_of setting (step ∷ before) f) ≤ 4294967296 → length (journal f (log_of step.role before)) ≡ push_count (Output f) (log_of step.role before) → push_count (Output f) (log_of step.role before) ≤ 4294967295
+entry_fits : (setting : Setting) (step : Step) (before : History) (f : FnId) (b : BufId) (parcel was : Parcel)
+    → step.act ≡ Push (Output f) (Buffer b parcel) → step.role ≡ core_role setting.layout f.0
+    → last_popped b.0 (log_of step.role before) ≡ Some was → length (journal_of setting (step ∷ before) f) ≤ 4294967296
+    → length (journal f (log_of step.role before)) ≡ push_count (Output f) (log_of step.role before)
+    → push_count (Output f) (log_of step.role before) ≤ 4294967295
 entry_fits setting step before f b parcel was acts role has few long =
     let log : Log = log_of step.role before in
-    let whole : journal_of setting (step ∷ before) f ≡ journal f (Push (Output f) (Buffer b parcel) ∷ log) = ap (journal f) (log_on (core_role setting.layout f.0) step before (Push (Output f) (Buffer b parcel)) acts role) in
-    let added : slice_get (journal f (Push (Output f) (Buffer b parcel) ∷ log)) (push_count (Output f) log) ≡ Some (record { before = was; verdict = verdict_in (last_crumb parcel.trail); bytes = parcel.packet })
+    let whole : journal_of setting (step ∷ before) f ≡ journal f (Push (Output f) (Buffer b parcel) ∷ log) =
+    ap (journal f) (log_on (core_role setting.layout f.0) step before (Push (Output f) (Buffer b parcel)) acts role) in
+    let added : slice_get (journal f (Push (Output f) (Buffer b parcel) ∷ log)) (push_count (Output f) log)
+    ≡ Some (record { before = was; verdict = verdict_in (last_crumb parcel.trail); bytes = parcel.packet })
     = entry_added f log b parcel was (push_count (Output f) log) has long in
-    omega (arith, few, ap length whole, slice_get_within (journal f (Push (Output f) (Buffer b parcel) ∷ log)) (push_count (Output f) log) (record { before = was; verdict = verdict_in (last_crumb parcel.trail); bytes = parcel.packet }) added)
+    omega (
+      arith,
+      few,
+      ap length whole,
+      slice_get_within (journal f (Push (Output f) (Buffer b parcel) ∷ log)) (push_count (Output f) log)
+          (record { before = was; verdict = verdict_in (last_crumb parcel.trail); bytes = parcel.packet }) added,
+    )
 
 min_is : (n : ℕ) → n ≤ 4294967295 → min n 4294967295 ≡ n
 min_is n le = omega arith
 
 -- journals that are short were so before
-journal_longer : (setting : Setting) (step : Step) (before : History) (f : FnId) → length (journal_of setting before f) ≤ length (journal_of setting (step ∷ before) f)
+journal_longer : (setting : Setting) (step : Step) (before : History) (f : FnId)
+    → length (journal_of setting before f) ≤ length (journal_of setting (step ∷ before) f)
 journal_longer setting step before f =
     elim (cases_Bool (step.role == core_role setting.layout f.0)) [
-      | inl met ↦ rw met (omega (arith, length-append (journal_of setting before f) (handlings f step.act (log_of (core_role setting.layout f.0) before))))
+      | inl met ↦
+          rw met (omega (
+            arith,
+            length-append (journal_of setting before f)
+                (handlings f step.act (log_of (core_role setting.layout f.0) before)),
+          ))
       | inr unmet ↦ rw unmet (omega arith)
     ]
 
-short_before : (setting : Setting) (step : Step) (before : History) → HasShortJournals setting (step ∷ before) → HasShortJournals setting before
+short_before : (setting : Setting) (step : Step) (before : History) → HasShortJournals setting (step ∷ before)
+    → HasShortJournals setting before
 short_before setting step before few f = omega (arith, few f, journal_longer setting step before f)
 
 -- what a role pushes is traced where all loads were
-pushed_traced : (setting : Setting) (step : Step) (before : History) (ring : RingId) (b : BufId) (parcel : Parcel) → step.act ≡ Push ring (Buffer b parcel) → IsLawful setting.layout (step ∷ before) → IsOfBlocks setting step.role (Push ring (Buffer b parcel) ∷ log_of step.role before) → HasShortJournals setting (step ∷ before) → ((buf : ℕ) (p : Parcel) → load setting buf before ≡ Some (Loaded p) → IsTraced setting before p) → IsTraced setting (step ∷ before) parcel
+pushed_traced : (setting : Setting) (step : Step) (before : History) (ring : RingId) (b : BufId) (parcel : Parcel)
+    → step.act ≡ Push ring (Buffer b parcel) → IsLawful setting.layout (step ∷ before)
+    → IsOfBlocks setting step.role (Push ring (Buffer b parcel) ∷ log_of step.role before)
+    → HasShortJournals setting (step ∷ before)
+    → ((buf : ℕ) (p : Parcel) → load setting buf before ≡ Some (Loaded p) → IsTraced setting before p)
+    → IsTraced setting (step ∷ before) parcel
 pushed_traced setting step before ring b parcel acts lawful blocks few all =
     let kind : Kind = kind_of setting.layout step.role in
     let log : Log = log_of step.role before in
-    let kinds : IsKind setting step.role kind (Push ring (Buffer b parcel) ∷ log) = is_kind setting step.role (Push ring (Buffer b parcel) ∷ log) kind refl blocks in
-    let allowed : AllowsAct setting.layout before step.role (Push ring (Buffer b parcel)) = subst (AllowsAct setting.layout before step.role) acts lawful.0.allowed in
+    let kinds : IsKind setting step.role kind (Push ring (Buffer b parcel) ∷ log) =
+    is_kind setting step.role (Push ring (Buffer b parcel) ∷ log) kind refl blocks in
+    let allowed : AllowsAct setting.layout before step.role (Push ring (Buffer b parcel)) =
+    subst (AllowsAct setting.layout before step.role) acts lawful.0.allowed in
     elim (comes_from setting step.role kind log ring b parcel kinds) [
       | inl enters ↦ entered_traced setting (step ∷ before) parcel enters
-      | inr (inl (core, made)) ↦ let had : HasLoad setting before step.role b.0 (Loaded made.hand.parcel) = own_load_is setting before lawful.1 step.role b.0 (Loaded made.hand.parcel) made.owns in
-          let role : step.role ≡ core_role setting.layout made.function.0 = allowed.own_end ∙ ap (producer setting.layout) made.ring_is in
+      | inr (inl (core, made)) ↦
+          let had : HasLoad setting before step.role b.0 (Loaded made.hand.parcel) =
+          own_load_is setting before lawful.1 step.role b.0 (Loaded made.hand.parcel) made.owns in
+          let role : step.role ≡ core_role setting.layout made.function.0 =
+          allowed.own_end ∙ ap (producer setting.layout) made.ring_is in
           let core_kind : IsKind setting step.role Handles log = is_kind setting step.role log Handles core blocks.1 in
-          let pushes_so : step.act ≡ Push (Output made.function) (Buffer b parcel) = acts ∙ ap (λ (r : RingId). Push r (Buffer b parcel)) made.ring_is in
-          let was : last_popped b.0 log ≡ Some made.hand.parcel = popped_in_hand setting step.role log b.0 made.hand core_kind made.held_is made.same in
-          let long : length (journal made.function log) ≡ push_count (Output made.function) log = journal_length made.function setting step.role log core_kind in
-          let fits : push_count (Output made.function) log ≤ 4294967295 = entry_fits setting step before made.function b parcel made.hand.parcel pushes_so role was (few made.function) long in
-          handled_traced setting step before made.function made.hand b parcel (crumb_place made.function log) pushes_so role was (long ∙ sym (min_is (push_count (Output made.function) log) fits)) made.handled (all b.0 made.hand.parcel had.has)
-      | inr (inr moved) ↦ let had : HasLoad setting before step.role b.0 (Loaded moved.0) = own_load_is setting before lawful.1 step.role b.0 (Loaded moved.0) moved.1 in
-          moved_traced setting (step ∷ before) moved.0 parcel moved.2 moved.3 moved.4 (traced_on setting step before moved.0 (all b.0 moved.0 had.has))
+          let pushes_so : step.act ≡ Push (Output made.function) (Buffer b parcel) =
+          acts ∙ ap (λ (r : RingId). Push r (Buffer b parcel)) made.ring_is in
+          let was : last_popped b.0 log ≡ Some made.hand.parcel =
+          popped_in_hand setting step.role log b.0 made.hand core_kind made.held_is made.same in
+          let long : length (journal made.function log) ≡ push_count (Output made.function) log =
+          journal_length made.function setting step.role log core_kind in
+          let fits : push_count (Output made.function) log ≤ 4294967295 =
+          entry_fits setting step before made.function b parcel made.hand.parcel pushes_so role was
+          (few made.function) long in
+          handled_traced setting step before made.function made.hand b parcel
+          (crumb_place made.function log) pushes_so role was
+          (long ∙ sym (min_is (push_count (Output made.function) log) fits)) made.handled
+          (all b.0 made.hand.parcel had.has)
+      | inr (inr moved) ↦
+          let had : HasLoad setting before step.role b.0 (Loaded moved.0) =
+          own_load_is setting before lawful.1 step.role b.0 (Loaded moved.0) moved.1 in
+          moved_traced setting (step ∷ before) moved.0 parcel moved.2 moved.3 moved.4
+          (traced_on setting step before moved.0 (all b.0 moved.0 had.has))
     ]
 
 -- what is loaded after an act was so before, or is what the act names
-loaded_by : (buf : ℕ) (fresh : FrameId) (act : Act) (was : Option Load) (parcel : Parcel) → load_after buf fresh act was ≡ Some (Loaded parcel) → (was ≡ Some (Loaded parcel)) ⊎ (((r : RingId) × (b : BufId) × (act ≡ Push r (Buffer b parcel))) ⊎ ((r : RingId) × (b : BufId) × (act ≡ Pop r (Buffer b parcel))))
+loaded_by : (buf : ℕ) (fresh : FrameId) (act : Act) (was : Option Load) (parcel : Parcel)
+    → load_after buf fresh act was ≡ Some (Loaded parcel)
+    → (was ≡ Some (Loaded parcel))
+    ⊎ (((r : RingId) × (b : BufId) × (act ≡ Push r (Buffer b parcel)))
+    ⊎ ((r : RingId) × (b : BufId) × (act ≡ Pop r (Buffer b parcel))))
 loaded_by buf fresh (Take b) was parcel e =
-    elim (cases_Bool (b.0 == buf)) [ inl hit ↦ absurd (let off : Some (Fresh fresh) ≡ Some (Loaded parcel) = rw hit at e in cc) | inr miss ↦ inl (rw miss at e) ]
+    elim (cases_Bool (b.0 == buf)) [
+      | inl hit ↦ absurd (let off : Some (Fresh fresh) ≡ Some (Loaded parcel) = rw hit at e in cc)
+      | inr miss ↦ inl (rw miss at e)
+    ]
 loaded_by buf fresh (Give b outcome p) was parcel e =
-    elim (cases_Bool (b.0 == buf)) [ inl hit ↦ absurd (let off : None ≡ Some (Loaded parcel) = rw hit at e in cc) | inr miss ↦ inl (rw miss at e) ]
+    elim (cases_Bool (b.0 == buf)) [
+      | inl hit ↦ absurd (let off : None ≡ Some (Loaded parcel) = rw hit at e in cc)
+      | inr miss ↦ inl (rw miss at e)
+    ]
 loaded_by buf fresh (Push r (Buffer b p)) was parcel e =
-    elim (cases_Bool (b.0 == buf)) [ inl hit ↦ let one : Some (Loaded p) ≡ Some (Loaded parcel) = rw hit at e in let same : p ≡ parcel = cc in inr (inl (r, b, ap (λ (q : Parcel). Push r (Buffer b q)) same)) | inr miss ↦ inl (rw miss at e) ]
+    elim (cases_Bool (b.0 == buf)) [
+      | inl hit ↦
+          let one : Some (Loaded p) ≡ Some (Loaded parcel) = rw hit at e in
+          let same : p ≡ parcel = cc in inr (inl (r, b, ap (λ (q : Parcel). Push r (Buffer b q)) same))
+      | inr miss ↦ inl (rw miss at e)
+    ]
 loaded_by buf fresh (Push r (Number n)) was parcel e = inl e
 loaded_by buf fresh (Pop r (Buffer b p)) was parcel e =
-    elim (cases_Bool (b.0 == buf)) [ inl hit ↦ let one : Some (Loaded p) ≡ Some (Loaded parcel) = rw hit at e in let same : p ≡ parcel = cc in inr (inr (r, b, ap (λ (q : Parcel). Pop r (Buffer b q)) same)) | inr miss ↦ inl (rw miss at e) ]
+    elim (cases_Bool (b.0 == buf)) [
+      | inl hit ↦
+          let one : Some (Loaded p) ≡ Some (Loaded parcel) = rw hit at e in
+          let same : p ≡ parcel = cc in inr (inr (r, b, ap (λ (q : Parcel). Pop r (Buffer b q)) same))
+      | inr miss ↦ inl (rw miss at e)
+    ]
 loaded_by buf fresh (Pop r (Number n)) was parcel e = inl e
 loaded_by buf fresh (Split a) was parcel e = inl e
 loaded_by buf fresh (Join a) was parcel e = inl e
@@ -330,18 +394,32 @@ loaded_by buf fresh (Look a b c) was parcel e = inl e
 loaded_by buf fresh (Post a b) was parcel e = inl e
 
 -- each parcel in a buffer is traced
-pub loads_traced : (setting : Setting) (past : History) → IsLawful setting.layout past → AllOfBlocks setting past → HasShortJournals setting past → (buf : ℕ) (parcel : Parcel) → load setting buf past ≡ Some (Loaded parcel) → IsTraced setting past parcel
+pub loads_traced : (setting : Setting) (past : History)
+    → IsLawful setting.layout past → AllOfBlocks setting past → HasShortJournals setting past
+    → (buf : ℕ) (parcel : Parcel) → load setting buf past ≡ Some (Loaded parcel)
+    → IsTraced setting past parcel
 loads_traced setting [] lawful blocks few buf parcel e = absurd (let off : None ≡ Some (Loaded parcel) = e in cc)
 loads_traced setting (step ∷ before) lawful blocks few buf parcel e =
-    let all : (b : ℕ) (p : Parcel) → load setting b before ≡ Some (Loaded p) → IsTraced setting before p = loads_traced setting before lawful.1 (blocks_before setting step before blocks) (short_before setting step before few) in
-    elim (loaded_by buf (block_frame setting step.role (log_of step.role before)) step.act (load setting buf before) parcel e) [
+    let all : (b : ℕ) (p : Parcel) → load setting b before ≡ Some (Loaded p) → IsTraced setting before p =
+    loads_traced setting before lawful.1 (blocks_before setting step before blocks)
+    (short_before setting step before few) in
+    elim (loaded_by buf (block_frame setting step.role (log_of step.role before)) step.act
+    (load setting buf before) parcel e) [
       | inl was ↦ traced_on setting step before parcel (all buf parcel was)
-      | inr (inl pushed_on) ↦ pushed_traced setting step before pushed_on.0 pushed_on.1 parcel pushed_on.2 lawful (subst (λ a. IsOfBlocks setting step.role (a ∷ log_of step.role before)) pushed_on.2 (own_blocks setting step before blocks)) few all
-      | inr (inr popped_from) ↦ traced_on setting step before parcel (all popped_from.1.0 parcel (popped_load setting step before lawful (content_loaded setting before lawful.1) popped_from.0 popped_from.1 parcel popped_from.2))
+      | inr (inl pushed_on) ↦
+          pushed_traced setting step before pushed_on.0 pushed_on.1 parcel pushed_on.2 lawful
+          (subst (λ a. IsOfBlocks setting step.role (a ∷ log_of step.role before)) pushed_on.2
+          (own_blocks setting step before blocks)) few all
+      | inr (inr popped_from) ↦
+          traced_on setting step before parcel (all popped_from.1.0 parcel (popped_load setting step before lawful
+          (content_loaded setting before lawful.1) popped_from.0 popped_from.1 parcel popped_from.2))
     ]
 
 -- what a role gives is an entering parcel, or what it had, perhaps moved
-given_receive : (setting : Setting) (port : ℕ) (e : Entry) (phase : ReceivePhase) (b : BufId) (outcome : Outcome) (parcel : Parcel) → frame_after setting port (done_in phase) ≡ Some e → MayReceiveFor setting port e phase (Give b outcome parcel) → Enters setting parcel
+given_receive : (setting : Setting) (port : ℕ) (e : Entry) (phase : ReceivePhase) (b : BufId) (outcome : Outcome)
+    (parcel : Parcel)
+    → frame_after setting port (done_in phase) ≡ Some e → MayReceiveFor setting port e phase (Give b outcome parcel)
+    → Enters setting parcel
 given_receive setting port e (Took done buf) b (Sent q) parcel found may = (e, port, done, found, may.1)
 given_receive setting port e (Took done buf) b (Dropped f why) parcel found may = absurd may
 given_receive setting port e (Took done buf) b (Throttled x y z) parcel found may = absurd may
@@ -353,48 +431,82 @@ given_receive setting port e (Asks done k) b outcome parcel found may = absurd m
 given_receive setting port e (Seeks done k) b outcome parcel found may = absurd may
 given_receive setting port e (Sees done index seen) b outcome parcel found may = absurd may
 
-was_moved : (own : Option (ℕ × Load)) (hand : Hand) (b : BufId) (parcel after : Parcel) → own ≡ Some (hand.buf, Loaded hand.parcel) → b.0 ≡ hand.buf → parcel ≡ after → after.frame ≡ hand.parcel.frame → after.trail ≡ hand.parcel.trail → after.packet ≡ hand.parcel.packet → Moved own b parcel
-was_moved own hand b parcel after h same is frame trail packet =
-    (hand.parcel, h ∙ ap (λ (n : ℕ). Some (n, Loaded hand.parcel)) (sym same), ap (λ (p : Parcel). p.frame) is ∙ frame, ap (λ (p : Parcel). p.trail) is ∙ trail, ap (λ (p : Parcel). p.packet) is ∙ packet)
+was_moved : (own : Option (ℕ × Load)) (hand : Hand) (b : BufId) (parcel after : Parcel)
+    → own ≡ Some (hand.buf, Loaded hand.parcel) → b.0 ≡ hand.buf → parcel ≡ after → after.frame ≡ hand.parcel.frame
+    → after.trail ≡ hand.parcel.trail → after.packet ≡ hand.parcel.packet
+    → Moved own b parcel
+was_moved own hand b parcel after h same is frame trail packet = (
+  hand.parcel,
+  h ∙ ap (λ (n : ℕ). Some (n, Loaded hand.parcel)) (sym same),
+  ap (λ (p : Parcel). p.frame) is ∙ frame,
+  ap (λ (p : Parcel). p.trail) is ∙ trail,
+  ap (λ (p : Parcel). p.packet) is ∙ packet,
+)
 
-given_send : (setting : Setting) (feeder : ℕ) (phase : SendPhase) (own : Option (ℕ × Load)) (b : BufId) (outcome : Outcome) (parcel : Parcel) → HasSend own phase → MaySend setting feeder phase (Give b outcome parcel) → Moved own b parcel
+given_send : (setting : Setting) (feeder : ℕ) (phase : SendPhase) (own : Option (ℕ × Load)) (b : BufId)
+    (outcome : Outcome) (parcel : Parcel) → HasSend own phase → MaySend setting feeder phase (Give b outcome parcel)
+    → Moved own b parcel
 given_send setting feeder Free own b outcome parcel h may = absurd may
-given_send setting feeder (Sending hand) own b (Sent q) parcel h may = was_moved own hand b parcel hand.parcel h may.0 may.2 refl refl refl
-given_send setting feeder (Sending hand) own b (Dropped f why) parcel h may = was_moved own hand b parcel hand.parcel h may.0 may.3 refl refl refl
+given_send setting feeder (Sending hand) own b (Sent q) parcel h may =
+    was_moved own hand b parcel hand.parcel h may.0 may.2 refl refl refl
+given_send setting feeder (Sending hand) own b (Dropped f why) parcel h may =
+    was_moved own hand b parcel hand.parcel h may.0 may.3 refl refl refl
 given_send setting feeder (Sending hand) own b (Throttled x y z) parcel h may = absurd may
 given_send setting feeder (Sending hand) own b (RingFull r) parcel h may = absurd may
 given_send setting feeder (Sending hand) own b PoolEmpty parcel h may = absurd may
-given_send setting feeder (TurnsBack hand r) own b outcome parcel h may = was_moved own hand b parcel (moved_to may.2.0 hand.parcel) h may.0 may.2.2 refl refl refl
+given_send setting feeder (TurnsBack hand r) own b outcome parcel h may =
+    was_moved own hand b parcel (moved_to may.2.0 hand.parcel) h may.0 may.2.2 refl refl refl
 
-given_from : (setting : Setting) (role : ℕ) (kind : Kind) (log : Log) (b : BufId) (outcome : Outcome) (parcel : Parcel) → IsKind setting role kind (Give b outcome parcel ∷ log) → Enters setting parcel ⊎ Moved (own_load setting role log) b parcel
+given_from : (setting : Setting) (role : ℕ) (kind : Kind) (log : Log) (b : BufId) (outcome : Outcome) (parcel : Parcel)
+    → IsKind setting role kind (Give b outcome parcel ∷ log)
+    → Enters setting parcel ⊎ Moved (own_load setting role log) b parcel
 given_from setting role Receives log b outcome parcel h =
     elim h.0 [
       | inl mark ↦ absurd mark.1
-      | inr block ↦ inl (given_receive setting role block.0 (receive_phase setting log) b outcome parcel block.1 block.2)
+      | inr block ↦
+          inl (given_receive setting role block.0 (receive_phase setting log) b outcome parcel block.1 block.2)
     ]
-given_from setting role Sends log b outcome parcel h = inr (given_send setting role (send_phase log) (own_load setting role log) b outcome parcel (send_has setting role log h.1) h.0)
+given_from setting role Sends log b outcome parcel h =
+    inr (given_send setting role (send_phase log) (own_load setting role log) b outcome parcel
+    (send_has setting role log h.1) h.0)
 given_from setting role Handles log b outcome parcel h = absurd h.0
 given_from setting role Ticks log b outcome parcel h = absurd h.0
 given_from setting role Leads log b outcome parcel h = absurd h.0
 
-given_traced : (setting : Setting) (step : Step) (before : History) (b : BufId) (outcome : Outcome) (parcel : Parcel) → step.act ≡ Give b outcome parcel → IsLawful setting.layout before → IsOfBlocks setting step.role (Give b outcome parcel ∷ log_of step.role before) → ((buf : ℕ) (p : Parcel) → load setting buf before ≡ Some (Loaded p) → IsTraced setting before p) → IsTraced setting (step ∷ before) parcel
+given_traced : (setting : Setting) (step : Step) (before : History) (b : BufId) (outcome : Outcome) (parcel : Parcel)
+    → step.act ≡ Give b outcome parcel → IsLawful setting.layout before
+    → IsOfBlocks setting step.role (Give b outcome parcel ∷ log_of step.role before)
+    → ((buf : ℕ) (p : Parcel) → load setting buf before ≡ Some (Loaded p) → IsTraced setting before p)
+    → IsTraced setting (step ∷ before) parcel
 given_traced setting step before b outcome parcel acts lawful blocks all =
-    elim (given_from setting step.role (kind_of setting.layout step.role) (log_of step.role before) b outcome parcel (is_kind setting step.role (Give b outcome parcel ∷ log_of step.role before) (kind_of setting.layout step.role) refl blocks)) [
+    elim (given_from setting step.role (kind_of setting.layout step.role) (log_of step.role before) b outcome parcel
+    (is_kind setting step.role (Give b outcome parcel ∷ log_of step.role before)
+    (kind_of setting.layout step.role) refl blocks)) [
       | inl enters ↦ entered_traced setting (step ∷ before) parcel enters
-      | inr moved ↦ let had : HasLoad setting before step.role b.0 (Loaded moved.0) = own_load_is setting before lawful step.role b.0 (Loaded moved.0) moved.1 in
-          moved_traced setting (step ∷ before) moved.0 parcel moved.2 moved.3 moved.4 (traced_on setting step before moved.0 (all b.0 moved.0 had.has))
+      | inr moved ↦
+          let had : HasLoad setting before step.role b.0 (Loaded moved.0) =
+          own_load_is setting before lawful step.role b.0 (Loaded moved.0) moved.1 in
+          moved_traced setting (step ∷ before) moved.0 parcel moved.2 moved.3 moved.4
+          (traced_on setting step before moved.0 (all b.0 moved.0 had.has))
     ]
 
-named_traced : (setting : Setting) (step : Step) (before : History) (act : Act) (parcel : Parcel) → step.act ≡ act → IsLawful setting.layout (step ∷ before) → AllOfBlocks setting (step ∷ before) → HasShortJournals setting (step ∷ before) → Names act parcel → IsTraced setting (step ∷ before) parcel
+named_traced : (setting : Setting) (step : Step) (before : History) (act : Act) (parcel : Parcel)
+    → step.act ≡ act → IsLawful setting.layout (step ∷ before) → AllOfBlocks setting (step ∷ before)
+    → HasShortJournals setting (step ∷ before) → Names act parcel
+    → IsTraced setting (step ∷ before) parcel
 named_traced setting step before (Push r (Buffer b p)) parcel acts lawful blocks few names =
-    loads_traced setting (step ∷ before) lawful blocks few b.0 parcel (rw (acts, eq-eqb b.0 b.0 refl) (ap (λ (q : Parcel). Some (Loaded q)) names))
+    loads_traced setting (step ∷ before) lawful blocks few b.0 parcel
+    (rw (acts, eq-eqb b.0 b.0 refl) (ap (λ (q : Parcel). Some (Loaded q)) names))
 named_traced setting step before (Pop r (Buffer b p)) parcel acts lawful blocks few names =
-    loads_traced setting (step ∷ before) lawful blocks few b.0 parcel (rw (acts, eq-eqb b.0 b.0 refl) (ap (λ (q : Parcel). Some (Loaded q)) names))
+    loads_traced setting (step ∷ before) lawful blocks few b.0 parcel
+    (rw (acts, eq-eqb b.0 b.0 refl) (ap (λ (q : Parcel). Some (Loaded q)) names))
 named_traced setting step before (Give b outcome p) parcel acts lawful blocks few names =
     subst (IsTraced setting (step ∷ before)) names
     (given_traced setting step before b outcome p acts lawful.1
-    (subst (λ a. IsOfBlocks setting step.role (a ∷ log_of step.role before)) acts (own_blocks setting step before blocks))
-    (loads_traced setting before lawful.1 (blocks_before setting step before blocks) (short_before setting step before few)))
+    (subst (λ a. IsOfBlocks setting step.role (a ∷ log_of step.role before)) acts
+    (own_blocks setting step before blocks))
+    (loads_traced setting before lawful.1 (blocks_before setting step before blocks)
+    (short_before setting step before few)))
 named_traced setting step before (Push r (Number n)) parcel acts lawful blocks few names = absurd names
 named_traced setting step before (Pop r (Number n)) parcel acts lawful blocks few names = absurd names
 named_traced setting step before (Take a) parcel acts lawful blocks few names = absurd names
@@ -406,5 +518,9 @@ named_traced setting step before (Look a b c) parcel acts lawful blocks few name
 named_traced setting step before (Post a b) parcel acts lawful blocks few names = absurd names
 
 -- each parcel that is pushed, popped or given is traced
-pub each_traced : (setting : Setting) (step : Step) (before : History) (parcel : Parcel) → IsLawful setting.layout (step ∷ before) → AllOfBlocks setting (step ∷ before) → HasShortJournals setting (step ∷ before) → Names step.act parcel → IsTraced setting (step ∷ before) parcel
-each_traced setting step before parcel lawful blocks few names = named_traced setting step before step.act parcel refl lawful blocks few names
+pub each_traced : (setting : Setting) (step : Step) (before : History) (parcel : Parcel)
+    → IsLawful setting.layout (step ∷ before) → AllOfBlocks setting (step ∷ before)
+    → HasShortJournals setting (step ∷ before) → Names step.act parcel
+    → IsTraced setting (step ∷ before) parcel
+each_traced setting step before parcel lawful blocks few names =
+    named_traced setting step before step.act parcel refl lawful blocks few names

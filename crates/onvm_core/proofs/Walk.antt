@@ -22,7 +22,17 @@ use Rattle.onvm_core.specs.Lawful.{IsLawful}
 
 -- a port, a transmit role, a core, a function; 1024 buffers, rings of 128
 abbrev pub layout : Layout
-layout = record { ports = 1; transmit = 1; cores = 1; functions = 1; buffers = 1024; ring = 128; output = 128; core_of = replicate 32 0 }
+layout =
+    record {
+      ports = 1;
+      transmit = 1;
+      cores = 1;
+      functions = 1;
+      buffers = 1024;
+      ring = 128;
+      output = 128;
+      core_of = replicate 32 0;
+    }
 
 abbrev pub f : FnId
 f = record { 0 = 0 }
@@ -113,16 +123,37 @@ first_bit h = let off : 1 ≡ 0 = h in absurd (omega (arith, off))
 
 received_is : IsLawful layout received
 received_is = (
-  record { live = refl; allowed = record { known = (omega arith, omega arith); own_end = refl; room = omega arith; suits = (record { known = omega arith; holder = refl }, omega arith) } },
+  record {
+    live = refl;
+    allowed =
+        record {
+          known = (omega arith, omega arith);
+          own_end = refl;
+          room = omega arith;
+          suits = (record { known = omega arith; holder = refl }, omega arith);
+        };
+  },
   (
-    record { live = refl; allowed = record { known = omega arith; in_pool = refl; own_port = refl; shown = (refl, first_bit) } },
+    record {
+      live = refl;
+      allowed = record { known = omega arith; in_pool = refl; own_port = refl; shown = (refl, first_bit) };
+    },
     looked_is,
   ),
 )
 
 served_is : IsLawful layout served
 served_is = (
-  record { live = refl; allowed = record { known = omega arith; own_end = refl; room = omega arith; suits = (record { known = omega arith; holder = refl }, omega arith, omega arith) } },
+  record {
+    live = refl;
+    allowed =
+        record {
+          known = omega arith;
+          own_end = refl;
+          room = omega arith;
+          suits = (record { known = omega arith; holder = refl }, omega arith, omega arith);
+        };
+  },
   (
     record { live = refl; allowed = record { known = (omega arith, omega arith); own_end = refl; first = refl } },
     (
@@ -153,11 +184,28 @@ not_held role b held = let gone : Pool ≡ Role role = sym (all_back b) ∙ held
 
 pub walk_is_lawful : IsLawful layout walk
 walk_is_lawful = (
-  record { live = refl; allowed = record { first = refl; another = λ e. omega (arith, e); live = refl; empty_handed = λ b known. not_held 2 b } },
+  record {
+    live = refl;
+    allowed =
+        record { first = refl; another = λ e. omega (arith, e); live = refl; empty_handed = λ b known. not_held 2 b };
+  },
   (
-    record { live = refl; allowed = record { first = refl; another = λ e. omega (arith, e); live = refl; empty_handed = λ b known. not_held 1 b } },
+    record {
+      live = refl;
+      allowed =
+          record { first = refl; another = λ e. omega (arith, e); live = refl; empty_handed = λ b known. not_held 1 b };
+    },
     (
-      record { live = refl; allowed = record { first = refl; another = λ e. omega (arith, e); live = refl; empty_handed = λ b known. not_held 0 b } },
+      record {
+        live = refl;
+        allowed =
+            record {
+              first = refl;
+              another = λ e. omega (arith, e);
+              live = refl;
+              empty_handed = λ b known. not_held 0 b;
+            };
+      },
       transmitted_is,
     ),
   ),

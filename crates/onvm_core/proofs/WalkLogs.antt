@@ -12,9 +12,17 @@ use Rattle.onvm_core.specs.Handling.SawRoom.{ByLook}
 use Rattle.onvm_core.specs.Blocks.{AllOfBlocks, IsOfBlocks}
 use Rattle.onvm_core.proofs.Plans.{smallest}
 use Rattle.onvm_core.proofs.Walk.{layout, entered, f, first_bit, walk}
+use Rattle.onvm_core.specs.History.{History}
 
 abbrev pub entry : Entry
-entry = record { frame = entered.frame; stamp = entered.stamp; packet = entered.packet; chain = entered.chain; hash = entered.hash }
+entry =
+    record {
+      frame = entered.frame;
+      stamp = entered.stamp;
+      packet = entered.packet;
+      chain = entered.chain;
+      hash = entered.hash;
+    }
 
 abbrev pub setting : Setting
 setting = record { layout = layout; plan = smallest; entries = entry ∷ [] }
@@ -26,7 +34,11 @@ receive_is : IsOfBlocks setting 0 (log_of 0 walk)
 receive_is = (
   inr (entry, refl, (refl, refl, record { function = f; cursor = 0; move = refl; lane = refl })),
   (
-    inr (entry, refl, record { known = omega arith; word = refl; shown = first_bit; lowest = λ k less. absurd (omega (arith, less)) }),
+    inr (
+      entry,
+      refl,
+      record { known = omega arith; word = refl; shown = first_bit; lowest = λ k less. absurd (omega (arith, less)) },
+    ),
     (
       inr (entry, refl, (refl, λ none. absurd (omega (arith, none)))),
       (
@@ -80,20 +92,22 @@ send_is = (
 lead_is : IsOfBlocks setting 4 (log_of 4 walk)
 lead_is = (tt, (tt, (tt, (tt, (tt, (tt, tt))))))
 
--- the role, or another
-at_role : (n role : ℕ) → IsOfBlocks setting n (log_of n walk) → (n == role) ≡ true → IsOfBlocks setting role (log_of role walk)
-at_role n role is met = subst (λ r. IsOfBlocks setting r (log_of r walk)) (eqb-true n role met) is
+-- what holds of one role's log holds of a role of the same number
+pub at_role : (setting : Setting) (past : History) (n role : ℕ)
+    → IsOfBlocks setting n (log_of n past) → (n == role) ≡ true
+    → IsOfBlocks setting role (log_of role past)
+at_role setting past n role is met = subst (λ r. IsOfBlocks setting r (log_of r past)) (eqb-true n role met) is
 
 pub walk_follows : AllOfBlocks setting walk
 walk_follows role =
     elim (cases_Bool (0 == role)) [
-      | inl met ↦ at_role 0 role receive_is met
+      | inl met ↦ at_role setting walk 0 role receive_is met
       | inr not_receive ↦ elim (cases_Bool (1 == role)) [
-        | inl met ↦ at_role 1 role send_is met
+        | inl met ↦ at_role setting walk 1 role send_is met
         | inr not_send ↦ elim (cases_Bool (2 == role)) [
-          | inl met ↦ at_role 2 role core_is met
+          | inl met ↦ at_role setting walk 2 role core_is met
           | inr not_core ↦ elim (cases_Bool (4 == role)) [
-            | inl met ↦ at_role 4 role lead_is met
+            | inl met ↦ at_role setting walk 4 role lead_is met
             | inr not_lead ↦ rw (not_receive, not_send, not_core, not_lead) tt
           ]
         ]

@@ -25,23 +25,31 @@ use Rattle.onvm_core.specs.Marks.Mark.{Passed, Posted}
 
 -- Throttles
 
--- the function's mark is raised and not cleared: of the run of last posts that have its bit, the pass of the first found
--- high and low, and each pass from that one on found low
+-- the function's mark is raised and not cleared: of the run of last posts that have its bit, the pass of the first
+-- found high and low, and each pass from that one on found low
 pub data IsRaised (f : ℕ) : Marks → Type 0 where
   -- the first post of the run, and its pass
-  ByPost : (value : ℕ) (pass : Pass) (before : Marks) → has_bit value f ≡ true → has_bit (last_post before) f ≡ false
-      → finds true f pass ≡ true → finds false f pass ≡ true → IsRaised f (Posted value ∷ Passed pass ∷ before)
-  ByAnotherPost : (value : ℕ) (before : Marks) → has_bit value f ≡ true → IsRaised f before → IsRaised f (Posted value ∷ before)
-  ByPass : (pass : Pass) (before : Marks) → finds false f pass ≡ true → IsRaised f before → IsRaised f (Passed pass ∷ before)
+  ByPost : (value : ℕ) (pass : Pass) (before : Marks)
+      → has_bit value f ≡ true → has_bit (last_post before) f ≡ false
+      → finds true f pass ≡ true → finds false f pass ≡ true
+      → IsRaised f (Posted value ∷ Passed pass ∷ before)
+  ByAnotherPost : (value : ℕ) (before : Marks) → has_bit value f ≡ true → IsRaised f before
+      → IsRaised f (Posted value ∷ before)
+  ByPass : (pass : Pass) (before : Marks) → finds false f pass ≡ true → IsRaised f before
+      → IsRaised f (Passed pass ∷ before)
 
 -- the same but for a pass that the feeder is still in: its looks aren't in the marks, or they are and its post is due
 abbrev pub IsRaisedUpToNow : Ages → ℕ → Marks → Type 0
 IsRaisedUpToNow aged f marks =
-    IsRaised f marks ⊎ ((pass : Pass) × (before : Marks) × (marks ≡ Passed pass ∷ before) × (¬ IsPaid aged marks) × IsRaised f before)
+    IsRaised f marks
+    ⊎ ((pass : Pass) × (before : Marks) × (marks ≡ Passed pass ∷ before)
+    × (¬ IsPaid aged marks)
+    × IsRaised f before)
 
 -- a frame that a look recorded as throttled after these steps: the feeder's word had this post, with the bit of this
 -- function, the lowest of the frame's chain, and the function's mark was raised and not cleared
-pub record IsEarnedThrottle (setting : Setting) (aged : ℕ → Ages) (past : History) (e : Entry) (told : Record) (feeder post function : ℕ) : Type 0 where
+pub record IsEarnedThrottle (setting : Setting) (aged : ℕ → Ages) (past : History) (e : Entry) (told : Record)
+    (feeder post function : ℕ) : Type 0 where
   pub seen : ℕ
   pub shown : value_of setting.layout past (PostWord feeder) ≡ seen
   pub number : seen / 2 ^ 32 ≡ post
@@ -49,17 +57,20 @@ pub record IsEarnedThrottle (setting : Setting) (aged : ℕ → Ages) (past : Hi
   pub names : held.function ≡ function
   pub raised : IsRaisedUpToNow (aged feeder) function (standing setting feeder (log_of feeder past)).marks
 
--- a mark is cleared by the pass that doesn't find low: where the last post has the bit, a post without it follows at once
+-- a mark is cleared by the pass that doesn't find low: where the last post has the bit, a post without it follows at
+-- once
 abbrev pub Clears : ℕ → Marks → Type 0
 Clears f [] = Unit {0}
 Clears f (Posted value ∷ []) = Unit {0}
 Clears f (Passed pass ∷ []) = Unit {0}
 Clears f (Posted value ∷ Posted other ∷ before) = Clears f (Posted other ∷ before)
 Clears f (Posted value ∷ Passed pass ∷ before) =
-    (has_bit (last_post before) f ≡ true → finds false f pass ≡ false → has_bit value f ≡ false) × Clears f (Passed pass ∷ before)
+    (has_bit (last_post before) f ≡ true → finds false f pass ≡ false → has_bit value f ≡ false)
+    × Clears f (Passed pass ∷ before)
 Clears f (Passed later ∷ Posted value ∷ before) = Clears f (Posted value ∷ before)
 Clears f (Passed later ∷ Passed pass ∷ before) =
-    (has_bit (last_post before) f ≡ true → finds false f pass ≡ true) × Clears f (Passed pass ∷ before)
+    (has_bit (last_post before) f ≡ true → finds false f pass ≡ true)
+    × Clears f (Passed pass ∷ before)
 
 -- The same in the log: a pass is made without a break, and the post that clears a mark is the very next act
 
@@ -90,7 +101,9 @@ ClearsAtOnce setting feeder f (act ∷ before) =
 abbrev pub EndsWithLooks : (port count : ℕ) → Log → Type 0
 EndsWithLooks port zero log = Unit {0}
 EndsWithLooks port (suc k) [] = ⊥
-EndsWithLooks port (suc k) (act ∷ before) = (act ≡ Look (PoolWord (record { 0 = port }) k) 0 None) × EndsWithLooks port k before
+EndsWithLooks port (suc k) (act ∷ before) =
+    (act ≡ Look (PoolWord (record { 0 = port }) k) 0 None)
+    × EndsWithLooks port k before
 
 -- no buffer was free: the recording look is at the last word of the part, and with the looks before it each word was 0
 pub record IsEarnedEmpty (setting : Setting) (role : ℕ) (log : Log) (act : Act) : Type 0 where
@@ -120,7 +133,8 @@ pub record IsDropped (setting : Setting) (parcel : Parcel) (function : FnId) (wh
 -- the frame leaves by this port from the entry, without a crumb, or by the verdict of its last crumb
 abbrev pub IsSent : Setting → Parcel → ℕ → Type 0
 IsSent setting parcel q =
-    ((parcel.trail ≡ []) × (enter setting.plan parcel.chain parcel.hash ≡ Leave q)) ⊎ IsNext setting parcel (Leave q)
+    ((parcel.trail ≡ []) × (enter setting.plan parcel.chain parcel.hash ≡ Leave q))
+    ⊎ IsNext setting parcel (Leave q)
 
 -- Which act records what: a look throttles and an empty pool, a give all else
 

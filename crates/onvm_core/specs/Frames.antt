@@ -54,7 +54,8 @@ has_frame frame (Some l) = same_frame (frame_of l) frame
 -- how many buffers have the frame
 abbrev pub buffers_with : Setting → FrameId → History → ℕ
 buffers_with setting frame past =
-    how_many (λ buf. has_frame frame (load setting buf past)) (all_below (setting.layout.ports * setting.layout.buffers))
+    how_many (λ buf. has_frame frame (load setting buf past))
+    (all_below (setting.layout.ports * setting.layout.buffers))
 
 -- how many records there are of the frame
 abbrev pub records_of : FrameId → History → ℕ
@@ -72,12 +73,15 @@ begun_in (Barred done buf ring) = done + 1
 -- the frame's block has a take or a record
 abbrev pub has_begun : Setting → FrameId → History → Bool
 has_begun setting frame past =
-    nat_lt frame.port.0 setting.layout.ports && (nat_lt 0 frame.number && nat_le frame.number (begun_in (receive_phase setting (log_of frame.port.0 past))))
+    nat_lt frame.port.0 setting.layout.ports
+    && (nat_lt 0 frame.number
+    && nat_le frame.number (begun_in (receive_phase setting (log_of frame.port.0 past))))
 
 -- every frame's block has ended
 abbrev pub AllEnded : Setting → History → Type 0
 AllEnded setting past =
-    (port : ℕ) → port < setting.layout.ports → (receive_phase setting (log_of port past) ≡ Between (length (of_port port setting.entries)))
+    (port : ℕ) → port < setting.layout.ports
+    → (receive_phase setting (log_of port past) ≡ Between (length (of_port port setting.entries)))
 
 -- every buffer is in the pool
 abbrev pub AllInPool : Setting → History → Type 0

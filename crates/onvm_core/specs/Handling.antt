@@ -41,7 +41,8 @@ next_cell setting f before = Cell (Output f) (push_count (Output f) before % set
 
 pub data SawRoom (setting : Setting) (f : FnId) : Log → Type 0 where
   ByLook : (before : Log) → SawRoom setting f (Look (next_cell setting f before) 0 None ∷ before)
-  Since : (act : Act) (before : Log) → is_push_on (Output f) act ≡ false → SawRoom setting f before → SawRoom setting f (act ∷ before)
+  Since : (act : Act) (before : Log) → is_push_on (Output f) act ≡ false → SawRoom setting f before
+      → SawRoom setting f (act ∷ before)
 
 -- Budget: how many pops a look at the weight word allows, up to the next
 

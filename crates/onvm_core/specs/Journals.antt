@@ -41,7 +41,8 @@ handling None after = []
 
 -- what an act of the function's core adds to the function's journal
 abbrev pub handlings : FnId → Act → Log → List Handling
-handlings f (Push (Output g) (Buffer b after)) before = if g.0 == f.0 then handling (last_popped b.0 before) after else []
+handlings f (Push (Output g) (Buffer b after)) before =
+    if g.0 == f.0 then handling (last_popped b.0 before) after else []
 handlings f _ before = []
 
 -- the journal of a function, in the log of its core: an entry for each push on its output ring, the oldest first

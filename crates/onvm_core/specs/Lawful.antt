@@ -69,8 +69,8 @@ pub record AllowsGive (layout : Layout) (before : History) (role buf : ℕ) (out
 
 -- Part 4: push
 
--- the item is of the ring's kind and the role's to push: a buffer that it holds, with a parcel that was handled at most 31
--- times on a lane, and from 1 to 32 times on an output ring; or on a mail ring a number
+-- the item is of the ring's kind and the role's to push: a buffer that it holds, with a parcel that was handled at most
+-- 31 times on a lane, and from 1 to 32 times on an output ring; or on a mail ring a number
 abbrev pub Suits : Layout → History → ℕ → RingId → Item → Type 0
 Suits layout past role (Lane f feeder) (Buffer buf parcel) = Holds layout past role buf.0 × (length parcel.trail ≤ 31)
 Suits layout past role (Output f) (Buffer buf parcel) =
@@ -109,7 +109,8 @@ abbrev pub NamesRingIn : Layout → Option Record → Type 0
 NamesRingIn layout None = Unit {0}
 NamesRingIn layout (Some told) = NamesRing layout told.outcome
 
-pub record AllowsLook (layout : Layout) (before : History) (word : Word) (seen : ℕ) (told : Option Record) : Type 0 where
+pub record AllowsLook (layout : Layout) (before : History) (word : Word) (seen : ℕ)
+    (told : Option Record) : Type 0 where
   pub known : IsWord layout word
   pub true_value : seen ≡ value_of layout before word
   pub names : NamesRingIn layout told

@@ -59,12 +59,24 @@ IsNumbered setting = (port done : ℕ) (e : Entry) → frame_after setting port 
 
 -- the parcel of a frame as it enters
 abbrev pub entry_parcel : Entry → Parcel
-entry_parcel e = record { frame = e.frame; stamp = e.stamp; packet = e.packet; chain = e.chain; cursor = 0; hash = e.hash; trail = [] }
+entry_parcel e =
+    record {
+      frame = e.frame;
+      stamp = e.stamp;
+      packet = e.packet;
+      chain = e.chain;
+      cursor = 0;
+      hash = e.hash;
+      trail = [];
+    }
 
 -- the parcel after a function handled it, with this place in the function's journal, a verdict and its bytes
 pub record IsHandled (function : FnId) (place : ℕ) (before after : Parcel) : Type 0 where
   pub verdict : Verdict
-  pub same : after ≡ record before { packet = after.packet; trail = before.trail ++ record { function = function; place = place; verdict = verdict } ∷ [] }
+  pub same : after ≡ record before {
+    packet = after.packet;
+    trail = before.trail ++ record { function = function; place = place; verdict = verdict } ∷ [];
+  }
 
 -- the parcel after a move
 abbrev pub moved_to : ℕ → Parcel → Parcel

@@ -18,7 +18,9 @@ pub record Want : Type 0 where
 -- a lane that had n pushes is looked at so many places back, if it had so many
 abbrev pub want : Setting → (function : ℕ) → Bool → (back pushes : ℕ) → List Want
 want setting f is_high back n =
-    if nat_le back n then record { function = f; is_high = is_high; cell = (n - back) % setting.layout.ring } ∷ [] else []
+    if nat_le back n
+    then record { function = f; is_high = is_high; cell = (n - back) % setting.layout.ring } ∷ []
+    else []
 
 abbrev pub wants_of : Setting → ℕ → Log → ℕ → List Want
 wants_of setting feeder log f =
@@ -110,11 +112,13 @@ pub record IsOwed (aged : Ages) (marks : Marks) (value : ℕ) : Type 0 where
   pub more : posts_in marks < last_number
   pub unsettled : ¬ IsSettled aged marks
   pub number : value / 2 ^ 32 ≡ posts_in marks + 1
-  pub bits : (f : ℕ) → has_bit value f ≡ (if posts_in marks + 1 == last_number then false else is_throttled aged f marks)
+  pub bits : (f : ℕ)
+      → has_bit value f ≡ (if posts_in marks + 1 == last_number then false else is_throttled aged f marks)
 
 -- Marks read off a feeder's log
 
--- the looks of the pass that the feeder is in which are still to be made and which were made, and the passes and posts before
+-- the looks of the pass that the feeder is in which are still to be made and which were made, and the passes and posts
+-- before
 pub record Standing : Type 0 where
   pub left : List Want
   pub made : Pass
@@ -127,8 +131,10 @@ next_looks setting feeder before (w ∷ ws) = w ∷ ws
 
 abbrev pub look_made : List Want → ℕ → Standing → Standing
 look_made [] seen was = was
-look_made (w ∷ []) seen was = record { left = []; made = []; marks = Passed (record { want = w; seen = seen } ∷ was.made) ∷ was.marks }
-look_made (w ∷ v ∷ ws) seen was = record { left = v ∷ ws; made = record { want = w; seen = seen } ∷ was.made; marks = was.marks }
+look_made (w ∷ []) seen was =
+    record { left = []; made = []; marks = Passed (record { want = w; seen = seen } ∷ was.made) ∷ was.marks }
+look_made (w ∷ v ∷ ws) seen was =
+    record { left = v ∷ ws; made = record { want = w; seen = seen } ∷ was.made; marks = was.marks }
 
 abbrev pub stands_after : Setting → ℕ → Act → Log → Standing → Standing
 stands_after setting feeder (Look (Cell (Lane f p) at) seen told) before was =
@@ -145,8 +151,8 @@ abbrev pub IsNextLook : List Want → (function cell : ℕ) → Type 0
 IsNextLook [] f at = ⊥
 IsNextLook (w ∷ ws) f at = (w.function ≡ f) × (w.cell ≡ at)
 
--- the act may follow: the next look of a pass; directly after a pass the post that is owed; and nothing else while a pass
--- is unfinished or a post is owed
+-- the act may follow: the next look of a pass; directly after a pass the post that is owed; and nothing else while a
+-- pass is unfinished or a post is owed
 abbrev pub MayMark : Setting → ℕ → Ages → Log → Act → Type 0
 MayMark setting feeder aged before (Look (Cell (Lane f p) at) seen told) =
     IsNextLook (next_looks setting feeder before (standing setting feeder before).left) f.0 at
@@ -159,8 +165,10 @@ MayMark setting feeder aged before act =
 -- all marks passes of the feeder are right, for these answers on the age
 abbrev pub AreMarked : Setting → ℕ → Ages → Log → Type 0
 AreMarked setting feeder aged [] = Unit {0}
-AreMarked setting feeder aged (act ∷ before) = MayMark setting feeder aged before act × AreMarked setting feeder aged before
+AreMarked setting feeder aged (act ∷ before) =
+    MayMark setting feeder aged before act × AreMarked setting feeder aged before
 
 -- each feeder's are, for some answers on the age
 abbrev pub AllMarked : Setting → (ℕ → Ages) → History → Type 0
-AllMarked setting aged past = (feeder : ℕ) → IsFeeder setting.layout feeder → AreMarked setting feeder (aged feeder) (log_of feeder past)
+AllMarked setting aged past = (feeder : ℕ) → IsFeeder setting.layout feeder
+    → AreMarked setting feeder (aged feeder) (log_of feeder past)

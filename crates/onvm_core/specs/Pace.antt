@@ -1,5 +1,5 @@
--- The pattern's part on feeders: a marks pass stands before a feeder's first block or pop, and since its latest one stand at
--- most a burst of blocks, or of pops from each output ring.
+-- The pattern's part on feeders: a marks pass stands before a feeder's first block or pop, and since its latest one
+-- stand at most a burst of blocks, or of pops from each output ring.
 use Rattle.std.specs.Prelude.{ℕ, ◌+◌, ◌<◌, ◌≤◌, Bool, true, false, ◌==◌, if◌then◌else◌, List, [], ◌∷◌}
 use Rattle.onvm_base.specs.declared.ids.RingId.TheVariants.{Lane, Output}
 use Rattle.onvm_core.specs.declared.layout.Word.TheVariants.{Cell, Post as PostWord}

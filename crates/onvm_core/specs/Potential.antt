@@ -28,8 +28,8 @@ sum_below f (suc n) = f n + sum_below f n
 abbrev pub hops_left : Parcel → ℕ
 hops_left parcel = 32 - length parcel.trail
 
--- Of a history: 66 for each frame that has neither entered nor a record, and for each parcel a number that falls from hop
--- to hop, and from the output ring to the next lane
+-- Of a history: 66 for each frame that has neither entered nor a record, and for each parcel a number that falls from
+-- hop to hop, and from the output ring to the next lane
 
 abbrev pub is_sender : Layout → ℕ → Bool
 is_sender layout role = nat_lt role (layout.ports + layout.transmit) && not (nat_lt role layout.ports)
@@ -54,7 +54,8 @@ waiting setting past port = length (of_port port setting.entries) - begun_in (re
 abbrev pub potential : Setting → History → ℕ
 potential setting past =
     66 * sum_below (waiting setting past) setting.layout.ports
-    + sum_below (λ buf. weight setting.layout (place_of buf past) (load setting buf past)) (setting.layout.ports * setting.layout.buffers)
+    + sum_below (λ buf. weight setting.layout (place_of buf past) (load setting buf past))
+    (setting.layout.ports * setting.layout.buffers)
 
 -- Of logs, one for each role
 
@@ -113,4 +114,5 @@ abbrev pub potential_of_logs : Setting → (ℕ → Log) → ℕ
 potential_of_logs setting logs =
     66 * sum_below (outside setting logs) setting.layout.ports
     + sum_below (function_weight setting logs) setting.layout.functions
-    + sum_below (λ role. hand_weight (kind_of setting.layout role) (logs role)) (setting.layout.ports + setting.layout.transmit + setting.layout.cores)
+    + sum_below (λ role. hand_weight (kind_of setting.layout role) (logs role))
+    (setting.layout.ports + setting.layout.transmit + setting.layout.cores)

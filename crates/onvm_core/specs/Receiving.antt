@@ -93,7 +93,8 @@ pub record IsLost (setting : Setting) (e : Entry) (k seen : ℕ) (told : Record)
 abbrev pub MaySeek : Setting → ℕ → Entry → ℕ → Word → ℕ → Option Record → Type 0
 MaySeek setting port e k word seen None =
     (word ≡ PoolWord (record { 0 = port }) k) × (seen ≡ 0 → 64 * (k + 1) < setting.layout.buffers)
-MaySeek setting port e k word seen (Some told) = (word ≡ PoolWord (record { 0 = port }) k) × IsLost setting e k seen told
+MaySeek setting port e k word seen (Some told) =
+    (word ≡ PoolWord (record { 0 = port }) k) × IsLost setting e k seen told
 
 -- Part 3, take: the buffer of the lowest bit shown
 pub record IsLowest (layout : Layout) (port index seen buf : ℕ) : Type 0 where

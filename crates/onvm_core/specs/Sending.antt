@@ -1,4 +1,5 @@
--- The pattern of a transmit role's log: each parcel that it pops from an output ring goes where its last crumb sends it.
+-- The pattern of a transmit role's log: each parcel that it pops from an output ring goes where its last crumb sends
+-- it.
 use Rattle.std.specs.Prelude.{ℕ, ◌≡◌, ◌<◌, [], ◌∷◌, length, Some}
 use Rattle.onvm_base.specs.declared.ids.FnId.{FnId}
 use Rattle.onvm_base.specs.declared.ids.RingId.{RingId}

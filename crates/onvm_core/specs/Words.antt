@@ -34,8 +34,8 @@ abbrev pub number_of : Item → ℕ
 number_of (Buffer buf parcel) = buf.0 + 1
 number_of (Number n) = n
 
--- what stands in a cell of a ring of this size, where these items were pushed one after another, the first of them after
--- so many others: the number of the item whose turn the cell is, else 0
+-- what stands in a cell of a ring of this size, where these items were pushed one after another, the first of them
+-- after so many others: the number of the item whose turn the cell is, else 0
 abbrev pub standing : (size at others : ℕ) → List Item → ℕ
 standing size at others [] = 0
 standing size at others (item ∷ items) =

@@ -18,5 +18,6 @@ deeds_of (Shut' marker before name takes) = deeds_of before ++ deed.Shut name.va
 deeds_of (Created' marker before name) = deeds_of before ++ deed.Created name.value ∷ []
 deeds_of (CreateFailed' marker before name) = deeds_of before ++ deed.CreateFailed name.value ∷ []
 deeds_of (Kept' marker before name puts) = deeds_of before ++ deed.Kept name.value (amounts_of puts.value) ∷ []
-deeds_of (KeepFailed' marker before name puts) = deeds_of before ++ deed.KeepFailed name.value (amounts_of puts.value) ∷ []
+deeds_of (KeepFailed' marker before name puts) =
+    deeds_of before ++ deed.KeepFailed name.value (amounts_of puts.value) ∷ []
 deeds_of (Said' marker before amount) = deeds_of before ++ deed.Said amount ∷ []

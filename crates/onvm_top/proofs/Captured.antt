@@ -6,13 +6,14 @@ use Rattle.onvm_base.specs.declared.frame.Frame.{Frame}
 use Rattle.pcap_in.specs.Calls.{HasRead}
 use Rattle.pcap_in.specs.Classic.{AreRecords, IsCaptureIn}
 use Rattle.pcap_in.specs.Faulty.{EndsInRecord}
+use Rattle.pcap_in.specs.declared.judge.TheConstants.{HEADER_LEN}
 use Rattle.pcap_in.specs.Reading.{Reading, AtRecord, EndsInHeader, Pulls}
 use Rattle.pcap_in.specs.declared.pull.Pull.TheVariants as pull
 use Rattle.pcap_in.specs.declared.spelling.Spelling.{Spelling}
 use Rattle.pcap_in.proofs.HasRead.{IsBehind-pulled}
 use Rattle.pcap_in.proofs.OneAnswer.{GivesFrame}
 use Rattle.onvm_top.specs.Fed.{EndsEarly}
-use Rattle.onvm_top.specs.Limits.{bytes_of, IsWithinLimits, PassesLimit}
+use Rattle.onvm_top.specs.Limits.{bytes_of, record_limit, capture_limit, IsWithinLimits, PassesLimit}
 
 -- the bytes of records
 length-AreRecords : (s : Spelling) (text : List ℕ) (frames : List Frame) → AreRecords s text frames
@@ -31,21 +32,21 @@ length-IsCapture s text frames (header, others, text-is, is, are) =
     let both : length text ≡ length header + length others = ap (length {A = ℕ}) text-is ∙ length-append header others in
     omega (arith, is.size)
 
-short_record : (s : Spelling) (rest : List ℕ) → EndsInRecord s rest → length rest < 262160
+short_record : (s : Spelling) (rest : List ℕ) → EndsInRecord s rest → length rest < record_limit
 short_record s rest (inl few) = omega arith
 short_record s rest (inr (limit, fraction, short)) = omega (arith, limit, short)
 
-short_at : (old : Reading) → AtRecord old (λ s at rest. EndsInRecord s rest) → length old.rest < 262184
+short_at : (old : Reading) → AtRecord old (λ s at rest. EndsInRecord s rest) → length old.rest < HEADER_LEN + record_limit
 short_at old (inl (none, s, header, rest, text, is, ends)) =
     omega (arith, short_record s rest ends, ap (length {A = ℕ}) text, length-append header rest, is.size)
 short_at old (inr (s, known, ends)) = omega (arith, short_record s old.rest ends)
 
-early_at : (old : Reading) → EndsInHeader old ⊎ AtRecord old (λ s at rest. EndsInRecord s rest) → length old.rest < 262184
+early_at : (old : Reading) → EndsInHeader old ⊎ AtRecord old (λ s at rest. EndsInRecord s rest) → length old.rest < HEADER_LEN + record_limit
 early_at old (inl ends) = omega (arith, ends.1)
 early_at old (inr at) = short_at old at
 
 inside_at : (old : Reading) → EndsInHeader old ⊎ AtRecord old (λ s at rest. EndsInRecord s rest)
-    → (s : Spelling) → old.spelling ≡ Some s → length old.rest < 262160
+    → (s : Spelling) → old.spelling ≡ Some s → length old.rest < record_limit
 inside_at old (inl (none, short)) s known = let clash : None ≡ Some s = sym none ∙ known in cc
 inside_at old (inr (inl (none, s', header, rest, text, is, ends))) s known = let clash : None ≡ Some s = sym none ∙ known in cc
 inside_at old (inr (inr (s', known', ends))) s known = short_record s' old.rest ends
@@ -68,7 +69,7 @@ rest-pulled frame old new pulls = used_at frame old new pulls.1
 
 -- within the limits of a port no more is fed than this, with less than a header and a record to come
 pub HasRead-bound : (fed : List ℕ) (frames : List Frame) (reading : Reading) → HasRead fed frames reading → IsWithinLimits frames
-    → length reading.rest < 262184 → reading.place + length reading.rest < 272892000
+    → length reading.rest < HEADER_LEN + record_limit → reading.place + length reading.rest < HEADER_LEN + capture_limit
 HasRead-bound fed frames reading (inl (none, zero, empty, fed-is)) within short = omega (arith, zero)
 HasRead-bound fed frames reading (inr behind) within short =
     let size = length-IsCapture behind.spelling behind.used frames behind.is_capture in

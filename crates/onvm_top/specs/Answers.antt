@@ -67,12 +67,15 @@ HasBadCapture words told = (command : Command) × IsCommand words command
 -- status 6: chain file and capture are good, and the files are as they were, or the output has a front
 abbrev pub FailsToWrite : List (List ℕ) → Option Entries → Option Entries → Type 0
 FailsToWrite words told told_now = (command : Command) × IsCommand words command
-    × (frames : List Frame) × OnTold told (λ files. IsChain command.chain files × IsGoodCapture command.capture files frames
+    × (frames : List Frame) × OnTold told (λ files. IsChain command.chain files
+    × IsGoodCapture command.capture files frames
     × ((told_now ≡ Some files) ⊎ HoldsFront command.out frames files told_now))
 
 -- where the words are a command and the files are told, this holds of both
 abbrev pub OnCommand : List (List ℕ) → Option Entries → (Command → Entries → Type 0) → Type 0
-OnCommand words told P = (command : Command) → IsCommand words command → (files : Entries) → told ≡ Some files → P command files
+OnCommand words told P = (command : Command) → IsCommand words command
+    → (files : Entries) → told ≡ Some files
+    → P command files
 
 -- the status is this one, unless the outside failed or memory ran out first
 abbrev pub IsUnlessStopped : Status → Status → Type 0

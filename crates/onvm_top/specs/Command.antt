@@ -26,6 +26,12 @@ pub record IsCommand (words : List (List ℕ)) (command : Command) : Type 0 wher
 
 -- the files of a command may be opened and created
 pub record MayReplay (may_open may_create : List ℕ → Type 0) (words : List (List ℕ)) : Type 0 where
-  pub opens_chain : (chain out capture : List ℕ) → IsCommand words (record { chain = chain; out = out; capture = capture }) → may_open chain
-  pub creates_out : (chain out capture : List ℕ) → IsCommand words (record { chain = chain; out = out; capture = capture }) → may_create out
-  pub opens_capture : (chain out capture : List ℕ) → IsCommand words (record { chain = chain; out = out; capture = capture }) → may_open capture
+  pub opens_chain : (chain out capture : List ℕ)
+      → IsCommand words (record { chain = chain; out = out; capture = capture })
+      → may_open chain
+  pub creates_out : (chain out capture : List ℕ)
+      → IsCommand words (record { chain = chain; out = out; capture = capture })
+      → may_create out
+  pub opens_capture : (chain out capture : List ℕ)
+      → IsCommand words (record { chain = chain; out = out; capture = capture })
+      → may_open capture

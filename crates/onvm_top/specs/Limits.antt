@@ -2,6 +2,7 @@
 use Rattle.std.specs.Prelude.{◌≡◌, ℕ, ◌+◌, ◌*◌, ◌≤◌, List, ◌++◌, length, sum_by}
 use Rattle.onvm_base.specs.declared.frame.Frame.{Frame}
 use Rattle.onvm_base.specs.declared.limits.TheConstants.{MAX_FRAME_BYTES, MAX_PORT_FRAMES, MAX_PORT_BYTES}
+use Rattle.pcap_in.specs.declared.judge.TheConstants.{HEADER_LEN, HEAD_LEN}
 use Rattle.pcap_in.specs.Classic.{IsCapture}
 
 -- the bytes of these frames together
@@ -14,8 +15,15 @@ pub record IsWithinLimits (frames : List Frame) : Type 0 where
 
 -- the text begins with a capture of more than a port takes
 abbrev pub PassesLimit : List ℕ → Type 0
-PassesLimit text = (used rest : List ℕ) × (frames : List Frame) × (text ≡ used ++ rest) × IsCapture used frames × ¬ (IsWithinLimits frames)
+PassesLimit text =
+    (used rest : List ℕ) × (frames : List Frame) × (text ≡ used ++ rest)
+    × IsCapture used frames
+    × ¬ (IsWithinLimits frames)
+
+-- the most bytes of a record: of its head and of a frame
+abbrev pub record_limit : ℕ
+record_limit = HEAD_LEN + MAX_FRAME_BYTES
 
 -- the bytes of a header, of the frames that a port takes with their heads, and of one record more
 abbrev pub capture_limit : ℕ
-capture_limit = 24 + 16 * (MAX_PORT_FRAMES + 1) + MAX_PORT_BYTES + MAX_FRAME_BYTES
+capture_limit = HEADER_LEN + HEAD_LEN * (MAX_PORT_FRAMES + 1) + MAX_PORT_BYTES + MAX_FRAME_BYTES

@@ -15,7 +15,8 @@ use Rattle.onvm_top.specs.Limits.{IsWithinLimits}
 abbrev pub all_sent : ℕ → List Frame → List Record
 all_sent number [] = []
 all_sent number (frame ∷ frames) =
-    record { frame = record { port = record { 0 = 0 }; number = number }; outcome = Sent 0 } ∷ all_sent (number + 1) frames
+    record { frame = record { port = record { 0 = 0 }; number = number }; outcome = Sent 0 }
+    ∷ all_sent (number + 1) frames
 
 -- the frame, where its outcome is Sent
 abbrev pub if_sent : Outcome → Frame → List Frame

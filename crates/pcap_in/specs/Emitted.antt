@@ -15,7 +15,8 @@ emitted_header =
 -- the original length is included length and tail together, as far as four bytes go
 abbrev pub emitted_head : Stamp → ℕ → List ℕ
 emitted_head stamp len =
-    little_bytes 4 stamp.seconds ++ little_bytes 4 stamp.nanos ++ little_bytes 4 len ++ little_bytes 4 (min (len + stamp.tail) 4294967295)
+    little_bytes 4 stamp.seconds ++ little_bytes 4 stamp.nanos ++ little_bytes 4 len
+    ++ little_bytes 4 (min (len + stamp.tail) 4294967295)
 
 abbrev pub emitted_frame : Frame → List ℕ
 emitted_frame frame = emitted_head frame.stamp (length frame.packet) ++ frame.packet

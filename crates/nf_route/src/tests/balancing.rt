@@ -78,6 +78,8 @@ fn routed_packets_leave_as_they_came(rt: HostRuntime) -> Result<(), Fail> {
     let mut route = route_of(rt.alloc(), &[RouteEntry { prefix, target }])?;
     let verdicts = packets_in_turn_are_a_journal(&mut route, &mut first, &mut second, &META)?;
     assert_eq!(rt; verdicts, (Verdict::ToService(9), Verdict::Drop));
+    let as_it_came = udp_packet(rt.alloc())?;
+    assert_eq!(rt; first.bytes(), as_it_came.bytes());
     assert_eq!(rt; second.bytes(), SHORT.as_slice());
     Ok(())
 }

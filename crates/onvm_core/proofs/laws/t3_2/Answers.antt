@@ -6,4 +6,5 @@ pub returns-clause-bounded : goal.returns-clause-bounded
 returns-clause-bounded c = content_bounded
 
 pub returns-clause-in_order : goal.returns-clause-in_order
-returns-clause-in_order c layout past lawful ring = (content_of ring past, popped-append-content layout ring past lawful)
+returns-clause-in_order c layout past lawful ring =
+    (content_of ring past, popped-append-content layout ring past lawful)

@@ -6,13 +6,18 @@ use Rattle.onvm_core.proofs.word.cell_value.Goals as goal
 
 pub returns-in-Some : goal.returns-in-Some
 returns-in-Some c =
-    let met : (c.loop-k.k % c.args.size == c.args.at) ≡ true = eq-eqb (c.loop-k.k % c.args.size) c.args.at c.if-k-size.true in
+    let met : (c.loop-k.k % c.args.size == c.args.at) ≡ true =
+    eq-eqb (c.loop-k.k % c.args.size) c.args.at c.if-k-size.true in
     c.number_of.ensures
-    ∙ sym (standing_here c.args.size c.args.at c.loop-k.k (pushed_on c.args.ring (reverse c.args.steps.now)) c.in-Some.item.now c.in-Some.ensures.found met)
+    ∙ sym (standing_here c.args.size c.args.at c.loop-k.k
+    (pushed_on c.args.ring (reverse c.args.steps.now)) c.in-Some.item.now c.in-Some.ensures.found met)
     ∙ sym c.loop-k.invariant
 
 pub loop-k-preserved : goal.loop-k-preserved
 loop-k-preserved c =
-    let unmet : (c.loop-k.k % c.args.size == c.args.at) ≡ false = ne_eqb (c.loop-k.k % c.args.size) c.args.at c.if-k-size.false in
-    let less : c.loop-k.k < length (pushed_on c.args.ring (reverse c.args.steps.now)) = omega (arith, c.moved-pushed.ensures.pushed, c.loop-k-test.true) in
-    c.loop-k.invariant ∙ standing_next c.args.size c.args.at c.loop-k.k (pushed_on c.args.ring (reverse c.args.steps.now)) less unmet
+    let unmet : (c.loop-k.k % c.args.size == c.args.at) ≡ false =
+    ne_eqb (c.loop-k.k % c.args.size) c.args.at c.if-k-size.false in
+    let less : c.loop-k.k < length (pushed_on c.args.ring (reverse c.args.steps.now)) =
+    omega (arith, c.moved-pushed.ensures.pushed, c.loop-k-test.true) in
+    c.loop-k.invariant
+    ∙ standing_next c.args.size c.args.at c.loop-k.k (pushed_on c.args.ring (reverse c.args.steps.now)) less unmet
