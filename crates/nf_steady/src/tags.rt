@@ -15,7 +15,8 @@ const TAG_LEN: usize = 4;
 /// Puts a tag before the type. A frame without a type goes on as it is, and one that would be
 /// too long is dropped.
 pub fn tag(packet: &mut Packet, vlan: u16, priority: u8) -> Result<Verdict, NoMemory>
-    ensures answer { IfOk result (λ verdict. Is (tagged (tag_of vlan priority) packet.old) verdict packet.new) }
+    ensures answer { IfOk result (λ verdict.
+        Is (tagged (tag_of vlan priority) packet.old) verdict packet.new) }
     ensures unchanged { OnErr result (packet.new ≡ packet.old) }
     ensures grows { OnErr result (IsTrue (has_room packet.old)) }
 {

@@ -24,13 +24,21 @@ const META: Meta = Meta {
 
 #[test]
 fn packets_in_turn_are_answered_one_by_one(rt: HostRuntime) -> Result<(), Fail> {
-    let mut dying = udp();
-    dying[22] = 1;
-    let mut first = Packet::from_slice(rt.alloc(), &dying)?;
+    let mut aged = udp();
+    aged[22] = 63;
+    aged[24] = 0x64;
+    let mut first = Packet::from_slice(rt.alloc(), &udp())?;
     let mut second = Packet::from_slice(rt.alloc(), &SHORT)?;
     let verdicts = packets_in_turn_are_a_journal(&mut Steady::Ttl, &mut first, &mut second, &META)?;
-    assert_eq!(rt; verdicts, (Verdict::Drop, Verdict::Next));
-    assert_eq!(rt; first.bytes(), &dying[..]);
+    assert_eq!(rt; verdicts, (Verdict::Next, Verdict::Next));
+    assert_eq!(rt; first.bytes(), &aged[..]);
     assert_eq!(rt; second.bytes(), &SHORT[..]);
+    let verdicts = packets_in_turn_are_a_journal(
+        &mut Steady::Drop,
+        &mut first,
+        &mut second,
+        &META,
+    )?;
+    assert_eq!(rt; verdicts, (Verdict::Drop, Verdict::Drop));
     Ok(())
 }
