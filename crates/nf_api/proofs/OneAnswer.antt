@@ -13,13 +13,13 @@ use Rattle.onvm_packet.specs.declared.heads.Net.{Net}
 use Rattle.onvm_packet.specs.declared.heads.Net.TheVariants as net
 use Rattle.nf_api.specs.Answers.{Answer, Is, IsAnswer}
 use Rattle.nf_api.proofs.Matching.{none_matches}
-use Rattle.nf_api.specs.Routing.{IsFound, IsRouted, Wins, NoneMatches, bits_of, towards}
+use Rattle.nf_api.specs.Routing.{IsFound, IsRouted, Wins, NoneMatches, length_of, towards}
 
 module _ (table : List RouteEntry) (target : ℕ) where
   -- two entries that win stand at one place
   one_place : (e f : RouteEntry) (a : Wins table target e) (b : Wins table target f) → a.at ≡ b.at
   one_place e f a b =
-      let same : bits_of e.prefix ≡ bits_of f.prefix =
+      let same : length_of e.prefix ≡ length_of f.prefix =
       le_antisymm (b.longest a.at e a.matches) (a.longest b.at f b.matches)
       in
       elim (cases_order a.at b.at) [

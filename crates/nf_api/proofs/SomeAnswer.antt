@@ -11,7 +11,7 @@ use Rattle.onvm_packet.specs.Heads.{net_of}
 use Rattle.onvm_packet.specs.declared.heads.Net.{Net}
 use Rattle.onvm_packet.specs.declared.heads.Net.TheVariants as net
 use Rattle.nf_api.proofs.Matching.{some_wins_or_none}
-use Rattle.nf_api.specs.Answers.{IsAnswer, is_plain, is_routing}
+use Rattle.nf_api.specs.Answers.{IsAnswer, is_steady, is_routing}
 use Rattle.nf_api.specs.Routing.{IsFound, IsRouted, towards}
 
 some_found : (table : List RouteEntry) (target : ℕ) → (v : Verdict) × IsFound table target v
@@ -25,7 +25,7 @@ some_routed table (net.V4 at source target protocol ttl) = some_found table targ
 some_routed table net.None = (Drop, refl)
 some_routed table (net.V6 at source target next hops) = (Drop, refl)
 
-pub some_answer : (kind : Kind) (port : PortId) (bytes : List ℕ) → IsTrue (is_plain kind || is_routing kind)
+pub some_answer : (kind : Kind) (port : PortId) (bytes : List ℕ) → IsTrue (is_steady kind || is_routing kind)
     → (v : Verdict) × (left : List ℕ) × IsAnswer kind port bytes v left
 some_answer kind.Forward port bytes steady = (_, _, (refl, refl))
 some_answer kind.Drop port bytes steady = (_, _, (refl, refl))

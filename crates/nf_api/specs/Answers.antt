@@ -1,5 +1,5 @@
 -- What each kind of function that keeps nothing answers for a frame: a verdict, and the bytes that it leaves.
-use Rattle.std.specs.Prelude.{◌≡◌, ℕ, ◌+◌, ◌-◌, ◌*◌, ◌%◌, Bool, true, false, nat_lt, nat_le, if◌then◌else◌, Option, Some, None, List, [], ◌∷◌, length, slice_index}
+use Rattle.std.specs.Prelude.{◌≡◌, ℕ, ◌+◌, ◌-◌, ◌*◌, ◌%◌, Bool, true, false, nat_le, if◌then◌else◌, Option, Some, None, List, [], ◌∷◌, length, slice_index}
 use Rattle.onvm_base.specs.declared.function.Kind.{Kind}
 use Rattle.onvm_base.specs.declared.function.Kind.TheVariants as kind
 use Rattle.onvm_base.specs.declared.ids.PortId.{PortId}
@@ -13,10 +13,10 @@ use Rattle.onvm_packet.specs.Heads.{heads_of, is_tagged, net_of}
 use Rattle.onvm_packet.specs.Holding.{do_hold}
 use Rattle.onvm_packet.specs.declared.heads.Heads.{Heads}
 use Rattle.onvm_packet.specs.declared.heads.Net.{Net}
+use Rattle.onvm_packet.specs.declared.heads.TheConstants.{ETHERNET_LEN, TAG_LEN}
 use Rattle.onvm_packet.specs.declared.heads.Net.TheVariants as net
 use Rattle.nf_api.specs.Routing.{IsRouted}
-use Rattle.nf_api.specs.Tree.{Tree}
-use Rattle.nf_api.specs.declared.meta.Meta.{Meta}
+use Rattle.nf_api.specs.Acts.{Acts}
 
 abbrev pub Answer : Type 0
 Answer = Verdict × List ℕ
@@ -30,33 +30,39 @@ abbrev pub filtered : List Tests → PortId → List ℕ → Answer
 filtered tests port bytes = (if does_match tests port (heads_of bytes) then Drop else Next, bytes)
 
 -- the TTL of an IPv4 head or the hop limit of an IPv6 head
-abbrev pub life_of : Net → Option ℕ
-life_of net.None = None
-life_of (net.V4 at source target protocol ttl) = Some ttl
-life_of (net.V6 at source target next hops) = Some hops
+abbrev pub ttl_of : Net → Option ℕ
+ttl_of net.None = None
+ttl_of (net.V4 at source target protocol ttl) = Some ttl
+ttl_of (net.V6 at source target next hops) = Some hops
 
 -- RFC 1812, 5.3.1, and RFC 8200, 3: a forwarded frame has one less, and none is forwarded with 0
-abbrev pub aged : Option ℕ → List ℕ → Answer
-aged None bytes = (Next, bytes)
-aged (Some life) bytes = if nat_le life 1 then (Drop, bytes) else (Next, with_ttl (life - 1) bytes)
+abbrev pub decremented : Option ℕ → List ℕ → Answer
+decremented None bytes = (Next, bytes)
+decremented (Some ttl) bytes = if nat_le ttl 1 then (Drop, bytes) else (Next, with_ttl (ttl - 1) bytes)
 
--- IEEE 802.1Q: the priority is the tag's high three bits, the VLAN its low twelve
-abbrev pub tag_of : ℕ → ℕ → ℕ
-tag_of vlan priority = priority * 8192 + vlan
+-- IEEE 802.1Q: in the tag control information the priority is the high three bits, the VLAN the low twelve
+abbrev pub tci_of : ℕ → ℕ → ℕ
+tci_of vlan priority = priority * 8192 + vlan
 
--- a frame without a type has no place for a tag, and one without room for four bytes more can't be sent on as it is
+-- a frame without a type has no place for a tag
+abbrev pub has_type : List ℕ → Bool
+has_type bytes = nat_le ETHERNET_LEN (length bytes)
+
+-- the frame isn't too long with a tag
+abbrev pub has_room : List ℕ → Bool
+has_room bytes = nat_le (length bytes + TAG_LEN) MAX_FRAME_BYTES
+
 abbrev pub tagged : ℕ → List ℕ → Answer
-tagged tag bytes =
-    if nat_lt (length bytes) 14 then (Next, bytes)
-    else (if nat_lt MAX_FRAME_BYTES (length bytes + 4) then (Drop, bytes) else (Next, with_tag tag bytes))
+tagged tci bytes =
+    if has_type bytes then (if has_room bytes then (Next, with_tag tci bytes) else (Drop, bytes)) else (Next, bytes)
 
 abbrev pub untagged : List ℕ → List ℕ
 untagged bytes = if is_tagged bytes then without_tag bytes else bytes
 
 abbrev pub addressed : List ℕ → List ℕ → List ℕ → List ℕ
-addressed target source bytes = if nat_le 14 (length bytes) then with_macs target source bytes else bytes
+addressed target source bytes = if has_type bytes then with_macs target source bytes else bytes
 
--- the frames of a flow go to one service
+-- the frames of a flow go to one service. A list of services is never empty (`IsKind`)
 abbrev pub balanced : List ℕ → Heads → Verdict
 balanced services heads = ToService (slice_index services (flow_hash_of heads % length services))
 
@@ -71,8 +77,8 @@ IsAnswer kind.Drop port bytes = Is (Drop, bytes)
 IsAnswer (kind.Out to) port bytes = Is (Out to, bytes)
 IsAnswer (kind.To service) port bytes = Is (ToService service, bytes)
 IsAnswer (kind.Filter tests) port bytes = Is (filtered tests port bytes)
-IsAnswer kind.Ttl port bytes = Is (aged (life_of (net_of bytes)) bytes)
-IsAnswer (kind.Tag vlan priority) port bytes = Is (tagged (tag_of vlan priority) bytes)
+IsAnswer kind.Ttl port bytes = Is (decremented (ttl_of (net_of bytes)) bytes)
+IsAnswer (kind.Tag vlan priority) port bytes = Is (tagged (tci_of vlan priority) bytes)
 IsAnswer kind.Untag port bytes = Is (Next, untagged bytes)
 IsAnswer (kind.Macs target source) port bytes = Is (Next, addressed target source bytes)
 IsAnswer (kind.Route table) port bytes =
@@ -81,25 +87,25 @@ IsAnswer (kind.Balance services) port bytes = Is (balanced services (heads_of by
 IsAnswer _ port bytes = λ verdict left. ⊥
 
 -- what a function of a kind that keeps nothing does: it answers by the frame alone, and its state stays as it is
-abbrev pub ActsSteadily : Kind → Tree → List ℕ → Meta → Verdict → List ℕ → Tree → Type 0
-ActsSteadily kind before bytes meta verdict left after =
+abbrev pub ActsStatelessly : Kind → Acts
+ActsStatelessly kind before bytes meta verdict left after =
     IsAnswer kind meta.frame.port bytes verdict left × (after ≡ before)
 
--- the kinds that a table of prefixes or a list of services answers
+-- the stateless kinds that pick where a frame goes by its heads
 abbrev pub is_routing : Kind → Bool
 is_routing (kind.Route table) = true
 is_routing (kind.Balance services) = true
 is_routing _ = false
 
--- the other kinds that keep nothing
-abbrev pub is_plain : Kind → Bool
-is_plain kind.Forward = true
-is_plain kind.Drop = true
-is_plain (kind.Out port) = true
-is_plain (kind.To service) = true
-is_plain (kind.Filter tests) = true
-is_plain kind.Ttl = true
-is_plain (kind.Tag vlan priority) = true
-is_plain kind.Untag = true
-is_plain (kind.Macs target source) = true
-is_plain _ = false
+-- the other stateless kinds
+abbrev pub is_steady : Kind → Bool
+is_steady kind.Forward = true
+is_steady kind.Drop = true
+is_steady (kind.Out port) = true
+is_steady (kind.To service) = true
+is_steady (kind.Filter tests) = true
+is_steady kind.Ttl = true
+is_steady (kind.Tag vlan priority) = true
+is_steady kind.Untag = true
+is_steady (kind.Macs target source) = true
+is_steady _ = false

@@ -1,5 +1,5 @@
 -- Where a table of prefixes sends a frame.
-use Rattle.std.specs.Prelude.{◌≡◌, ◌≢◌, ◌≤◌, ◌<◌, ◌⊎◌, ℕ, Bool, true, false, List, All, Some, slice_get}
+use Rattle.std.specs.Prelude.{◌≡◌, ◌≢◌, ◌≤◌, ◌<◌, ◌⊎◌, ℕ, min, true, false, List, All, Some, slice_get}
 use Rattle.onvm_base.specs.declared.rules.Prefix.{Prefix}
 use Rattle.onvm_base.specs.declared.rules.Prefix.TheVariants as prefix
 use Rattle.onvm_base.specs.declared.chain.ChainStep.{ChainStep}
@@ -7,18 +7,14 @@ use Rattle.onvm_base.specs.declared.chain.ChainStep.TheVariants as step
 use Rattle.onvm_base.specs.declared.function.RouteEntry.{RouteEntry}
 use Rattle.onvm_base.specs.declared.outcome.Verdict.{Verdict}
 use Rattle.onvm_base.specs.declared.outcome.Verdict.TheVariants.{Drop, ToService, Out}
-use Rattle.onvm_packet.specs.Holding.{same_front}
+use Rattle.onvm_packet.specs.Holding.{covers_ipv4}
 use Rattle.onvm_packet.specs.declared.heads.Net.{Net}
 use Rattle.onvm_packet.specs.declared.heads.Net.TheVariants as net
 
--- an IPv4 address is in a prefix
-abbrev pub covers : Prefix → ℕ → Bool
-covers (prefix.V4 address length) target = same_front 32 length target address
-covers (prefix.V6 address length) target = false
-
-abbrev pub bits_of : Prefix → ℕ
-bits_of (prefix.V4 address length) = length
-bits_of (prefix.V6 address length) = length
+-- how many first bits of an address a prefix fixes: at most all of them
+abbrev pub length_of : Prefix → ℕ
+length_of (prefix.V4 address length) = min length 32
+length_of (prefix.V6 address length) = min length 128
 
 -- the verdict that sends a frame to a target
 abbrev pub towards : ChainStep → Verdict
@@ -27,19 +23,19 @@ towards (step.Out port) = Out port
 
 -- this entry stands there in the table, and the address is in its prefix
 abbrev pub Matches : List RouteEntry → ℕ → ℕ → RouteEntry → Type 0
-Matches table target at entry = (slice_get table at ≡ Some entry) × (covers entry.prefix target ≡ true)
+Matches table target at entry = (slice_get table at ≡ Some entry) × (covers_ipv4 entry.prefix target ≡ true)
 
 -- among the entries whose prefix the address is in this one's is the longest, and among equal lengths it is the first
 pub record Wins (table : List RouteEntry) (target : ℕ) (entry : RouteEntry) : Type 0 where
   pub at : ℕ
   pub matches : Matches table target at entry
   pub longest : (i : ℕ) (other : RouteEntry) → Matches table target i other
-      → bits_of other.prefix ≤ bits_of entry.prefix
+      → length_of other.prefix ≤ length_of entry.prefix
   pub first : (i : ℕ) (other : RouteEntry) → Matches table target i other → i < at
-      → bits_of other.prefix ≢ bits_of entry.prefix
+      → length_of other.prefix ≢ length_of entry.prefix
 
 abbrev pub NoneMatches : List RouteEntry → ℕ → Type 0
-NoneMatches table target = All (λ entry. covers entry.prefix target ≡ false) table
+NoneMatches table target = All (λ entry. covers_ipv4 entry.prefix target ≡ false) table
 
 -- the verdict for an address: towards the target of the entry that wins, or Drop where no entry's prefix has it
 abbrev pub IsFound : List RouteEntry → ℕ → Verdict → Type 0

@@ -9,18 +9,19 @@ use onvm_base::{NoMemory, Packet, Verdict};
 /// clauses alone: so the packets that it handled are a journal through which `acts` leads, from the
 /// state that it began with to the one that it has.
 pub trait NetFunction: Drop {
-    ghost use Rattle.std.specs.Prelude.{◌≡◌, ◌≤◌, ℕ, List, length, IfOk, OnErr};
+    ghost use Rattle.std.specs.Prelude.{◌≡◌, ◌≤◌, ℕ, List, length, IfOk, OnErr, ⊤};
     ghost use Rattle.onvm_base.specs.declared.limits.TheConstants.{MAX_FRAME_BYTES};
-    ghost use Rattle.onvm_base.specs.declared.outcome.Verdict.{Verdict};
-    ghost use Rattle.nf_api.specs.declared.meta.Meta.{Meta};
+    ghost use Rattle.nf_api.specs.Acts.{Acts, Narrows};
     ghost use Rattle.nf_api.specs.Tree.{Tree};
 
     /// What it keeps between packets.
     ghost state: { Self → Tree };
 
-    /// In a state, for a packet of these bytes and for this meta, it may give this verdict, leave
-    /// these bytes and go to this state.
-    ghost acts: { Self → Tree → List ℕ → Meta → Verdict → List ℕ → Tree → Type 0 };
+    /// What it may do.
+    ghost acts: { Self → Acts };
+
+    /// The packets for which it may want memory. Where nothing is said, these are all.
+    ghost wants: { Self → List ℕ → Type 0 } = { λ function bytes. ⊤ };
 
     /// Handles a packet. Want of memory leaves the function and the packet as they were, and the
     /// packet may be handed in again.
@@ -29,15 +30,11 @@ pub trait NetFunction: Drop {
             acts self.old (state self.old) packet.old meta.now verdict packet.new (state self.new)) }
 
         // What it may do later, it might have done before.
-        ensures kept { (before : Tree) (bytes : List ℕ) (meta : Meta) (verdict : Verdict) (left : List ℕ) (after : Tree)
-            → acts self.new before bytes meta verdict left after
-            → acts self.old before bytes meta verdict left after }
+        ensures kept { Narrows (acts self.new) (acts self.old) }
         ensures unchanged { OnErr result ((state self.new ≡ state self.old) × (packet.new ≡ packet.old)) }
 
         // What it might have done before a want of memory, it may do afterwards.
-        ensures regained { OnErr result
-            ((before : Tree) (bytes : List ℕ) (meta : Meta) (verdict : Verdict) (left : List ℕ) (after : Tree)
-            → acts self.old before bytes meta verdict left after
-            → acts self.new before bytes meta verdict left after) }
+        ensures regained { OnErr result (Narrows (acts self.old) (acts self.new)) }
+        ensures wanting { OnErr result (wants self.old packet.old) }
         ensures within { length packet.old ≤ MAX_FRAME_BYTES → length packet.new ≤ MAX_FRAME_BYTES };
 }

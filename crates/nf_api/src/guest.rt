@@ -17,6 +17,8 @@ impl NetFunction for Guest {
 
     ghost acts = { λ guest. (NetFunction-box guest.function).acts guest.function.value };
 
+    ghost wants = { λ guest. (NetFunction-box guest.function).wants guest.function.value };
+
     fn handle(&mut self, packet: &mut Packet, meta: &Meta) -> Result<Verdict, NoMemory> {
         self.function.handle(packet, meta)
     }

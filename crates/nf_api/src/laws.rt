@@ -1,9 +1,10 @@
 //! What the clauses of a function give its caller, and what the table of answers implies.
-ghost use Rattle.std.specs.Prelude.{◌≡◌, ◌||◌, ℕ, List, IfOk, IsTrue};
+ghost use Rattle.std.specs.Prelude.{◌≡◌, ◌⊎◌, ◌||◌, ℕ, List, IfOk, IsTrue, OnErr};
 ghost use Rattle.onvm_base.specs.declared.function.Kind.{Kind};
 ghost use Rattle.onvm_base.specs.declared.ids.PortId.{PortId};
 ghost use Rattle.onvm_base.specs.declared.outcome.Verdict.{Verdict};
-ghost use Rattle.nf_api.specs.Answers.{IsAnswer, is_plain, is_routing};
+ghost use Rattle.nf_api.specs.Acts.{Narrows};
+ghost use Rattle.nf_api.specs.Answers.{IsAnswer, is_routing, is_steady};
 ghost use Rattle.nf_api.specs.Tree.{Tree};
 
 use crate::function::NetFunction;
@@ -12,7 +13,7 @@ use onvm_base::{NoMemory, Packet, Verdict};
 
 /// A kind that keeps nothing answers every frame.
 pub fn every_frame_has_an_answer()
-    ensures { (kind : Kind) (port : PortId) (bytes : List ℕ) → IsTrue (is_plain kind || is_routing kind)
+    ensures { (kind : Kind) (port : PortId) (bytes : List ℕ) → IsTrue (is_steady kind || is_routing kind)
         → (verdict : Verdict) × (left : List ℕ) × IsAnswer kind port bytes verdict left }
 {}
 
@@ -22,19 +23,28 @@ pub fn a_frame_has_one_answer()
         → IsAnswer kind port bytes v x → IsAnswer kind port bytes w y → (v ≡ w) × (x ≡ y) }
 {}
 
-/// Packets that a function handled one after the other are a journal: what it did as it was at
-/// first leads through them, from the state that it had to the one that it has.
-pub fn packets_in_turn_are_a_journal<N: NetFunction>(
+/// Two packets that a function handled one after the other are a journal: what it did as it was at
+/// first leads through them, from the state that it had to the one that it has. Where memory was
+/// wanting, one packet at most was handled.
+pub fn two_packets_are_a_journal<N: NetFunction>(
     function: &mut N,
     first: &mut Packet,
     second: &mut Packet,
     meta: &Meta,
 ) -> Result<(Verdict, Verdict), NoMemory>
-    ensures { IfOk result (λ verdicts. (between : Tree)
+    ensures journal { IfOk result (λ verdicts. (between : Tree)
         × ⟦<N as NetFunction>⟧.acts function.old (⟦<N as NetFunction>⟧.state function.old)
-        first.old meta.now verdicts.0 first.new between
+            first.old meta.now verdicts.0 first.new between
         × ⟦<N as NetFunction>⟧.acts function.old between
-        second.old meta.now verdicts.1 second.new (⟦<N as NetFunction>⟧.state function.new)) }
+            second.old meta.now verdicts.1 second.new (⟦<N as NetFunction>⟧.state function.new)) }
+    ensures kept { Narrows (⟦<N as NetFunction>⟧.acts function.new) (⟦<N as NetFunction>⟧.acts function.old) }
+    ensures second { OnErr result (second.new ≡ second.old) }
+    ensures first { OnErr result (
+        ((first.new ≡ first.old)
+            × (⟦<N as NetFunction>⟧.state function.new ≡ ⟦<N as NetFunction>⟧.state function.old))
+        ⊎ ((verdict : Verdict)
+            × ⟦<N as NetFunction>⟧.acts function.old (⟦<N as NetFunction>⟧.state function.old)
+                first.old meta.now verdict first.new (⟦<N as NetFunction>⟧.state function.new))) }
 {
     let verdict = function.handle(first, meta)?;
     Ok((verdict, function.handle(second, meta)?))

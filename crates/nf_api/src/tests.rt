@@ -1,6 +1,6 @@
 //! A guest in a box, called through the trait alone.
 
-use crate::laws::packets_in_turn_are_a_journal;
+use crate::laws::two_packets_are_a_journal;
 use crate::{Guest, Meta, NetFunction};
 use onvm_base::{ChainId, FrameId, ListOf, NoMemory, Packet, PortId, Stamp, Verdict};
 use std::test::Fail;
@@ -53,7 +53,7 @@ fn a_boxed_guest_keeps_its_state_between_packets(rt: HostRuntime) -> Result<(), 
     let mut guest = Guest { name, function };
     let mut first = Packet::from_slice(rt.alloc(), &[1, 2])?;
     let mut second = Packet::from_slice(rt.alloc(), &[3])?;
-    let verdicts = packets_in_turn_are_a_journal(&mut guest, &mut first, &mut second, &META);
+    let verdicts = two_packets_are_a_journal(&mut guest, &mut first, &mut second, &META);
     assert_eq!(rt; verdicts, Ok((Verdict::Next, Verdict::Drop)));
     assert_eq!(rt; first.bytes(), [1, 2].as_slice());
     assert_eq!(rt; second.bytes(), [3].as_slice());

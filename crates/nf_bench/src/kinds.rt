@@ -40,6 +40,6 @@ pub fn route(alloc: Global, entries: u16) -> Result<Route, NoMemory> {
 
 /// Flows over four services.
 pub fn balance(alloc: Global) -> Result<Route, NoMemory> {
-    let services = ListOf::from_vec(Vec::from_slice(alloc, &[1, 2, 3, 4])?);
+    let services = ListOf::from_slice(alloc, &[1, 2, 3, 4])?;
     Route::make(alloc, &Kind::Balance { services })
 }

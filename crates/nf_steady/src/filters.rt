@@ -1,11 +1,10 @@
 //! Objects of tests, any of which drops a frame.
-ghost use Rattle.std.specs.Prelude.{◌≡◌, IfOk};
+ghost use Rattle.std.specs.Prelude.{◌≡◌};
 ghost use Rattle.nf_api.specs.Answers.{does_match, filtered};
 ghost use Rattle.onvm_packet.specs.Heads.{heads_of};
 
-use onvm_base::{ListOf, NoMemory, PortId, TestsList, Verdict};
+use onvm_base::{PortId, TestsList, Verdict};
 use onvm_packet::{Heads, holds, parse};
-use std::alloc::Global;
 
 /// Drops a frame for which all tests of one object hold.
 pub fn filter(objects: &TestsList, bytes: &[u8], port: PortId) -> Verdict
@@ -28,11 +27,4 @@ fn matches_one(objects: &TestsList, port: PortId, heads: &Heads) -> bool
         }
     }
     false
-}
-
-/// A copy of tests.
-pub fn copy_of(alloc: Global, tests: &TestsList) -> Result<TestsList, NoMemory>
-    ensures { IfOk result (λ copy. copy ≡ tests.now) }
-{
-    Ok(ListOf::from_vec(Vec::from_slice(alloc, tests.as_slice())?))
 }

@@ -1,16 +1,16 @@
-//! The kinds of function that answer by the frame alone.
+//! Nine of the eleven kinds of function that keep nothing between packets.
 //!
-//! A *steady* function keeps nothing between packets: what it answers follows from its kind, the
-//! frame's bytes and the port that received them. A frame's *life* is the TTL of its IPv4 head or
-//! the hop limit of its IPv6 head.
+//! What a *steady* function answers follows from its kind, the frame's bytes and the port that
+//! received them. It may drop a frame or change its bytes. The other two stateless kinds, which
+//! pick where a frame goes by its heads, are those of `nf_route`.
 #![tactic(auto)]
 
-mod addresses;
 mod filters;
-mod life;
+mod macs;
 mod steady;
 mod tags;
 #[cfg(test)]
 mod tests;
+mod ttl;
 
 pub use steady::Steady;

@@ -1,12 +1,12 @@
 //! Steady functions.
 ghost use Rattle.std.specs.Prelude.{◌≡◌, IsTrue, IfOk, OnErr};
-ghost use Rattle.nf_api.specs.Answers.{IsAnswer, is_plain};
+ghost use Rattle.nf_api.specs.Answers.{IsAnswer, is_steady};
 ghost use Rattle.nf_steady.specs.Kinds.{does_grow, keeps_tests, kind_of};
 
-use crate::addresses::address;
-use crate::filters::{copy_of, filter};
-use crate::life::age;
+use crate::filters::filter;
+use crate::macs::rewrite_macs;
 use crate::tags::{tag, untag};
+use crate::ttl::decrement_ttl;
 use nf_api::{Meta, NetFunction};
 use onvm_base::{Kind, MAX_FRAME_BYTES, NoMemory, Packet, PortId, TestsList, Verdict};
 use std::alloc::Global;
@@ -28,7 +28,7 @@ pub enum Steady {
 impl Steady {
     /// The function of a kind. Only a filter takes memory: it keeps a copy of its tests.
     pub fn make(alloc: Global, kind: &Kind) -> Result<Steady, NoMemory>
-        requires plain { IsTrue (is_plain kind.now) }
+        requires steady { IsTrue (is_steady kind.now) }
         ensures made { IfOk result (λ steady. kind_of steady ≡ kind.now) }
         ensures copies { OnErr result (IsTrue (keeps_tests kind.now)) }
     {
@@ -40,7 +40,7 @@ impl Steady {
                 to_service: *to_service,
             },
             Kind::Filter { tests } => Steady::Filter {
-                tests: copy_of(alloc, tests)?,
+                tests: TestsList::from_slice(alloc, tests.as_slice())?,
             },
             Kind::Ttl => Steady::Ttl,
             Kind::Tag { vlan, tag_priority } => Steady::Tag {
@@ -74,14 +74,14 @@ impl Steady {
             Steady::Out { port: to } => Ok(Verdict::Out(*to)),
             Steady::To { to_service } => Ok(Verdict::ToService(*to_service)),
             Steady::Filter { tests } => Ok(filter(tests, packet.bytes(), port)),
-            Steady::Ttl => Ok(age(packet)),
+            Steady::Ttl => Ok(decrement_ttl(packet)),
             Steady::Tag { vlan, tag_priority } => tag(packet, *vlan, *tag_priority),
             Steady::Untag => {
                 untag(packet);
                 Ok(Verdict::Next)
             }
             Steady::Macs { target, source } => {
-                address(packet, *target, *source);
+                rewrite_macs(packet, *target, *source);
                 Ok(Verdict::Next)
             }
         }
@@ -89,13 +89,16 @@ impl Steady {
 }
 
 impl NetFunction for Steady {
-    ghost use Rattle.nf_api.specs.Answers.{ActsSteadily};
+    ghost use Rattle.std.specs.Prelude.{IsTrue};
+    ghost use Rattle.nf_api.specs.Answers.{ActsStatelessly};
     ghost use Rattle.nf_api.specs.Tree.{nothing};
-    ghost use Rattle.nf_steady.specs.Kinds.{kind_of};
+    ghost use Rattle.nf_steady.specs.Kinds.{does_grow, kind_of};
 
     ghost state = { λ steady. nothing };
 
-    ghost acts = { λ steady. ActsSteadily (kind_of steady) };
+    ghost acts = { λ steady. ActsStatelessly (kind_of steady) };
+
+    ghost wants = { λ steady bytes. IsTrue (does_grow (kind_of steady) bytes) };
 
     fn handle(&mut self, packet: &mut Packet, meta: &Meta) -> Result<Verdict, NoMemory> {
         let answer = self.answer(packet, meta.frame.port);

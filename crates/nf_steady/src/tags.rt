@@ -1,24 +1,16 @@
 //! Tags of IEEE 802.1Q.
-ghost use Rattle.std.specs.Prelude.{◌≡◌, ◌%◌, ◌^◌, IfOk, IsTrue, OnErr};
-ghost use Rattle.nf_api.specs.Answers.{Is, tag_of, tagged, untagged};
-ghost use Rattle.nf_steady.specs.Kinds.{has_room};
+ghost use Rattle.std.specs.Prelude.{◌≡◌, ◌%◌, ◌&&◌, ◌^◌, IfOk, IsTrue, OnErr};
+ghost use Rattle.nf_api.specs.Answers.{Is, has_room, has_type, tagged, tci_of, untagged};
 
 use onvm_base::{MAX_FRAME_BYTES, NoMemory, Packet, Verdict};
-use onvm_packet::{is_tagged, pop_tag, push_tag};
-
-// The addresses and the type of an Ethernet head.
-const ETHERNET_LEN: usize = 14;
-
-// The tag and its type.
-const TAG_LEN: usize = 4;
+use onvm_packet::{ETHERNET_LEN, TAG_LEN, is_tagged, pop_tag, push_tag};
 
 /// Puts a tag before the type. A frame without a type goes on as it is, and one that would be
 /// too long is dropped.
 pub fn tag(packet: &mut Packet, vlan: u16, priority: u8) -> Result<Verdict, NoMemory>
-    ensures answer { IfOk result (λ verdict.
-        Is (tagged (tag_of vlan priority) packet.old) verdict packet.new) }
+    ensures answer { IfOk result (λ verdict. Is (tagged (tci_of vlan priority) packet.old) verdict packet.new) }
     ensures unchanged { OnErr result (packet.new ≡ packet.old) }
-    ensures grows { OnErr result (IsTrue (has_room packet.old)) }
+    ensures grows { OnErr result (IsTrue (has_type packet.old && has_room packet.old)) }
 {
     let len = packet.bytes().len();
     if len < ETHERNET_LEN {
@@ -27,13 +19,14 @@ pub fn tag(packet: &mut Packet, vlan: u16, priority: u8) -> Result<Verdict, NoMe
     if len > MAX_FRAME_BYTES - TAG_LEN {
         return Ok(Verdict::Drop);
     }
-    push_tag(packet, tag_of(vlan, priority))?;
+    push_tag(packet, tci_of(vlan, priority))?;
     Ok(Verdict::Next)
 }
 
-// The two bytes of a tag as a number.
-fn tag_of(vlan: u16, priority: u8) -> u16
-    ensures { result ≡ tag_of vlan priority % 2 ^ 16 }
+// The tag control information, of which two bytes are sent. The ranges of a plan leave nothing to
+// wrap.
+fn tci_of(vlan: u16, priority: u8) -> u16
+    ensures { result ≡ tci_of vlan priority % 2 ^ 16 }
 {
     u16::from(priority).wrapping_mul(8192).wrapping_add(vlan)
 }

@@ -1,12 +1,13 @@
--- What is left where the items behind a part move over it, and others are written in its place.
+-- What is left where the items behind a part move, and others are written in the part's place.
 use Rattle.std.proofs.Common.{◌≡◌, ◌∙◌, sym, ap, ℕ, ◌+◌, ◌-◌, ◌≤◌, List, ◌++◌, length, take, drop, append_assoc, arith}
 use Rattle.std.proofs.Math.Seq.{paste}
 use Rattle.std.proofs.lemmas.List.{take_at, drop_at, length-append, length-take-le, length-drop, take-append-le, drop-append-le, take-take}
 
-module _ {X : Type 0} (s w : List X) (from upto : ℕ) (le : from ≤ upto) (within : upto ≤ length s) where
-  -- the list with room at its end for the new items
+module _ {X : Type 0} (s w room : List X) (from upto : ℕ) (le : from ≤ upto) (within : upto ≤ length s)
+    (enough : length w ≤ length room + (upto - from)) where
+  -- the list with room at its end
   abbrev pub grown : List X
-  grown = s ++ w
+  grown = s ++ room
 
   -- where what stood behind the part begins afterwards
   abbrev pub next : ℕ
@@ -20,15 +21,15 @@ module _ {X : Type 0} (s w : List X) (from upto : ℕ) (le : from ≤ upto) (wit
   front = take next grown
 
   front-length : length front ≡ next
-  front-length = length-take-le next grown (omega (arith, length-append s w))
+  front-length = length-take-le next grown (omega (arith, length-append s room))
 
   abbrev rest : List X
   rest = drop (next + (length s - upto)) grown
 
   behind : take (length s - upto) (drop upto grown) ≡ drop upto s
   behind =
-      ap (take (length s - upto)) (drop-append-le upto s w within)
-      ∙ take_at (drop upto s) w (length s - upto) (length-drop upto s)
+      ap (take (length s - upto)) (drop-append-le upto s room within)
+      ∙ take_at (drop upto s) room (length s - upto) (length-drop upto s)
 
   parts : moved ≡ front ++ (drop upto s ++ rest)
   parts = append_assoc front (take (length s - upto) (drop upto grown)) rest ∙ ap (λ (t : List X). front ++ (t ++ rest)) behind
@@ -36,7 +37,7 @@ module _ {X : Type 0} (s w : List X) (from upto : ℕ) (le : from ≤ upto) (wit
   moved-front : take from moved ≡ take from s
   moved-front =
       ap (take from) parts ∙ take-append-le from front (drop upto s ++ rest) (omega (arith, front-length))
-      ∙ take-take from next grown (omega arith) ∙ take-append-le from s w (omega arith)
+      ∙ take-take from next grown (omega arith) ∙ take-append-le from s room (omega arith)
 
   moved-behind : drop next moved ≡ drop upto s ++ rest
   moved-behind = ap (drop next) parts ∙ drop_at front (drop upto s ++ rest) next front-length

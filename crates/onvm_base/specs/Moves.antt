@@ -1,4 +1,4 @@
--- Where a frame goes: as it enters, and after each verdict.
+-- Where a frame goes: as it enters, and after each verdict. Which functions its chain names.
 use Rattle.std.specs.Prelude.{ℕ, ◌≡◌, ◌+◌, ◌%◌, ◌==◌, nat_lt, if◌then◌else◌, List, [], ◌∷◌, length, Option, Some, None, slice_get, slice_index, option_and_then}
 use Rattle.onvm_base.specs.declared.ids.ChainId.{ChainId}
 use Rattle.onvm_base.specs.declared.outcome.Verdict.{Verdict}
@@ -47,5 +47,5 @@ pub record IsOfChain (plan : Plan) (chain : ChainId) (f : ℕ) : Type 0 where
   pub at : ℕ
   pub service : ℕ
   pub named : step_at plan chain at ≡ Some (Service service)
-  pub instance : ℕ
-  pub is : slice_get (instances service plan.functions) instance ≡ Some f
+  pub place : ℕ
+  pub found : slice_get (instances service plan.functions) place ≡ Some f

@@ -1,5 +1,5 @@
 //! Lists over a `Vec`, which contracts see as lists.
-ghost use Rattle.std.specs.Prelude.{◌≡◌, ◌<◌, [], ◌∷◌, ◌++◌, length, slice_get, option_copied, option_to_list, IsTrue, ◌↔◌, IfNone, OnOk, OnErr};
+ghost use Rattle.std.specs.Prelude.{◌≡◌, ◌<◌, [], ◌∷◌, ◌++◌, length, slice_get, option_copied, option_to_list, IsTrue, ◌↔◌, IfNone, IfOk, OnOk, OnErr};
 
 use crate::refusal::NoMemory;
 use std::alloc::Global;
@@ -84,6 +84,17 @@ impl<T> ListOf<T> {
     {
         self.items.reserve(additional)?;
         Ok(())
+    }
+}
+
+impl<T: Copy> ListOf<T> {
+    /// A copy of these items.
+    pub fn from_slice(alloc: Global, items: &[T]) -> Result<Self, NoMemory>
+        ensures { IfOk result (λ list. list ≡ items.now) }
+    {
+        Ok(ListOf {
+            items: Vec::from_slice(alloc, items)?,
+        })
     }
 }
 

@@ -41,7 +41,8 @@ impl Packet {
         &self.bytes
     }
 
-    /// Puts other bytes in the place of those from `from` up to `upto`.
+    /// Puts other bytes in the place of those from `from` up to `upto`. A packet that grows takes
+    /// just the room that it needs.
     pub fn replace(&mut self, from: usize, upto: usize, with: &[u8]) -> Result<(), NoMemory>
         requires start { from ≤ upto }
         requires within { upto ≤ length self.old }
@@ -49,18 +50,26 @@ impl Packet {
         ensures ok { OnOk result (self.new ≡ take from self.old ++ with.now ++ drop upto self.old) }
         ensures err { OnErr result (self.new ≡ self.old) }
 
-        // Taking bytes out needs no memory.
-        ensures removes { length with.now ≡ 0 → IsOk result }
+        // A packet that doesn't grow needs no memory.
+        ensures shrinks { length with.now ≤ upto - from → IsOk result }
     {
-        let behind = upto..self.bytes.len();
-        let kept = self.bytes.len() - (upto - from);
-        // Room at the end, before what stands behind the part moves over.
-        self.bytes.extend_from_slice(with)?;
-        let next = from + with.len();
-        self.bytes.copy_within(behind, next);
+        let len = self.bytes.len();
+        let growth = with.len().saturating_sub(upto - from);
+        self.bytes.reserve_exact(growth)?;
+        // Only the length counts here: what stands behind the part moves over these bytes.
+        self.bytes.extend_from_slice(&with[..growth])?;
+        self.bytes.copy_within(upto..len, from + with.len());
         overwrite(&mut self.bytes, from, with);
-        self.bytes.truncate(kept + with.len());
+        self.bytes.truncate(len - (upto - from) + with.len());
         Ok(())
+    }
+
+    /// Writes bytes over those from `at` on.
+    pub fn overwrite(&mut self, at: usize, over: &[u8])
+        requires { at + length over.now ≤ length self.old }
+        ensures { self.new ≡ take at self.old ++ (over.now ++ drop (at + length over.now) self.old) }
+    {
+        overwrite(&mut self.bytes, at, over);
     }
 
     /// Writes one byte.

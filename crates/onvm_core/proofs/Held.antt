@@ -32,7 +32,7 @@ use Rattle.onvm_core.proofs.Marked.{no_bit as no_bits}
 
 -- the held frame's chain has function f, the lowest there is
 f_of_chain : IsOfChain setting.plan e3.chain 0
-f_of_chain = record { at = 0; service = 1; named = refl; instance = 0; is = refl }
+f_of_chain = record { at = 0; service = 1; named = refl; place = 0; found = refl }
 
 pub raises_f : Raises setting e3 4294967297 0
 raises_f = record { of_chain = f_of_chain; bit = λ h. let off : 1 ≡ 0 = h in absurd (omega (arith, off)) }
@@ -397,8 +397,8 @@ second_is_first (suc k) e = let off : None ≡ Some 1 = e in cc
 
 not_of_chain : IsOfChain setting.plan e3.chain 1 → ⊥
 not_of_chain of =
-    second_is_first of.instance (subst (λ s. slice_get (instances s setting.plan.functions) of.instance ≡ Some 1)
-    (step_of of.at of.service of.named) of.is)
+    second_is_first of.place (subst (λ s. slice_get (instances s setting.plan.functions) of.instance ≡ Some 1)
+    (step_of of.at of.service of.named) of.found)
 
 -- no throttle by a function of another chain is earned, whatever was posted
 pub not_by_another_chain : (aged : ℕ → Ages) (past : History) (told : Record) (feeder post : ℕ)

@@ -7,11 +7,11 @@ use onvm_base::{Failed, ListOf, Text};
 use std::test::Fail;
 
 fn text(rt: HostRuntime, bytes: &[u8]) -> Result<Text, Fail> {
-    Ok(ListOf::from_vec(Vec::from_slice(rt.alloc(), bytes)?))
+    Ok(ListOf::from_slice(rt.alloc(), bytes)?)
 }
 
 fn calls(rt: HostRuntime, numbers: &[u64]) -> Result<Calls, Fail> {
-    Ok(ListOf::from_vec(Vec::from_slice(rt.alloc(), numbers)?))
+    Ok(ListOf::from_slice(rt.alloc(), numbers)?)
 }
 
 fn file(rt: HostRuntime, name: &str, bytes: &[u8], fail: &[u64]) -> Result<MemFile, Fail> {

@@ -22,16 +22,24 @@ is_part (Some part) wanted = part == wanted
 abbrev pub same_front : ℕ → ℕ → ℕ → ℕ → Bool
 same_front bits length a b = (a / 2 ^ (bits - length)) == (b / 2 ^ (bits - length))
 
--- a prefix of one version has no address of the other
+-- an address is in a prefix. A prefix of one version has no address of the other
+abbrev pub covers_ipv4 : Prefix → ℕ → Bool
+covers_ipv4 (prefix.V4 front length) address = same_front 32 length address front
+covers_ipv4 (prefix.V6 front length) address = false
+
+abbrev pub covers_ipv6 : Prefix → ℕ → Bool
+covers_ipv6 (prefix.V4 front length) address = false
+covers_ipv6 (prefix.V6 front length) address = same_front 128 length address front
+
 abbrev pub has_source : Net → Prefix → Bool
-has_source (net.V4 at source target protocol ttl) (prefix.V4 address length) = same_front 32 length source address
-has_source (net.V6 at source target next hops) (prefix.V6 address length) = same_front 128 length source address
-has_source head wanted = false
+has_source (net.V4 at source target protocol ttl) wanted = covers_ipv4 wanted source
+has_source (net.V6 at source target next hops) wanted = covers_ipv6 wanted source
+has_source net.None wanted = false
 
 abbrev pub has_target : Net → Prefix → Bool
-has_target (net.V4 at source target protocol ttl) (prefix.V4 address length) = same_front 32 length target address
-has_target (net.V6 at source target next hops) (prefix.V6 address length) = same_front 128 length target address
-has_target head wanted = false
+has_target (net.V4 at source target protocol ttl) wanted = covers_ipv4 wanted target
+has_target (net.V6 at source target next hops) wanted = covers_ipv6 wanted target
+has_target net.None wanted = false
 
 abbrev pub protocol_of : Net → Option ℕ
 protocol_of net.None = None

@@ -2,10 +2,12 @@
 ghost use Rattle.std.specs.Prelude.{◌≡◌, ◌≢◌, ◌+◌, ◌≤◌, length, IsTrue, OnOk, OnErr};
 ghost use Rattle.onvm_packet.specs.Heads.{net_of, is_tagged};
 ghost use Rattle.onvm_packet.specs.Edits.{written, ipv4_ttl_written, with_ttl, with_macs, with_tag, without_tag};
+ghost use Rattle.onvm_base.specs.declared.limits.TheConstants.{MAX_FRAME_BYTES};
 ghost use Rattle.onvm_packet.specs.declared.heads.Net.TheVariants as net;
+ghost use Rattle.onvm_packet.specs.declared.heads.TheConstants.{ETHERNET_LEN, TAG_LEN};
 
 use crate::checksum::swap_word;
-use crate::heads::{Net, parse};
+use crate::heads::{Net, TAG_LEN, TYPE_AT, network};
 use crate::words::u16_at;
 use onvm_base::{NoMemory, Packet};
 
@@ -14,7 +16,7 @@ pub fn set_ttl(packet: &mut Packet, ttl: u8)
     requires network { net_of packet.old ≢ net.None }
     ensures { packet.new ≡ with_ttl ttl packet.old }
 {
-    let net = parse(packet.bytes()).net;
+    let net = network(packet.bytes());
     set_ttl_at(packet, &net, ttl);
 }
 
@@ -26,7 +28,7 @@ pub fn set_ttl_at(packet: &mut Packet, net: &Net, ttl: u8)
     match *net {
         Net::None => {}
         Net::V4 { at, protocol, .. } => set_ipv4_ttl(packet, at as usize, ttl, protocol),
-        Net::V6 { at, .. } => packet.set(at as usize + 7, ttl),
+        Net::V6 { at, .. } => packet.overwrite(at as usize + 7, &[ttl]),
     }
 }
 
@@ -39,28 +41,28 @@ fn set_ipv4_ttl(packet: &mut Packet, at: usize, ttl: u8, protocol: u8)
     let old = u16_at(packet.bytes(), at + 8);
     let new = u16::from_be_bytes([ttl, protocol]);
     let [high, low] = swap_word(sum, old, new).to_be_bytes();
-    write(packet, at + 8, &[ttl, protocol, high, low]);
+    packet.overwrite(at + 8, &[ttl, protocol, high, low]);
 }
 
 /// Sets the addresses of the Ethernet head.
 pub fn set_macs(packet: &mut Packet, target: [u8; 6], source: [u8; 6])
-    requires { 14 ≤ length packet.old }
+    requires { ETHERNET_LEN ≤ length packet.old }
     ensures { packet.new ≡ with_macs target source packet.old }
 {
-    write(packet, 0, &target);
-    write(packet, 6, &source);
+    packet.overwrite(0, &target);
+    packet.overwrite(target.len(), &source);
 }
 
 /// Puts a tag of IEEE 802.1Q before the type. Its `tci` has the priority in its high three bits
 /// and the VLAN in its low twelve.
 pub fn push_tag(packet: &mut Packet, tci: u16) -> Result<(), NoMemory>
-    requires typed { 14 ≤ length packet.old }
-    requires room { length packet.old ≤ 262140 }
+    requires typed { ETHERNET_LEN ≤ length packet.old }
+    requires room { length packet.old + TAG_LEN ≤ MAX_FRAME_BYTES }
     ensures ok { OnOk result (packet.new ≡ with_tag tci packet.old) }
     ensures err { OnErr result (packet.new ≡ packet.old) }
 {
     let [high, low] = tci.to_be_bytes();
-    packet.replace(12, 12, &[0x81, 0x00, high, low])?;
+    packet.replace(TYPE_AT, TYPE_AT, &[0x81, 0x00, high, low])?;
     Ok(())
 }
 
@@ -70,19 +72,7 @@ pub fn pop_tag(packet: &mut Packet)
     ensures { packet.new ≡ without_tag packet.old }
 {
     let len = packet.bytes().len();
-    prove!(len >= 16);
+    prove!(len >= TYPE_AT + TAG_LEN);
     // To take bytes out is never refused.
-    let _ = packet.replace(12, 16, &[]);
-}
-
-// Overwrites the bytes from an offset on.
-fn write(packet: &mut Packet, at: usize, over: &[u8])
-    requires { at + length over.now ≤ length packet.old }
-    ensures { packet.new ≡ written at over.now packet.old }
-{
-    let len = packet.bytes().len();
-    prove!(over.len() <= len && at <= len - over.len());
-    for (place, byte) in over.iter().enumerate() {
-        packet.set(at + place, *byte);
-    }
+    let _ = packet.replace(TYPE_AT, TYPE_AT + TAG_LEN, &[]);
 }

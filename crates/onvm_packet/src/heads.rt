@@ -5,11 +5,14 @@ ghost use Rattle.onvm_packet.specs.Heads.{heads_of, is_tagged, type_at, net_of, 
 
 use crate::words::{u8_at, u16_at, u32_at, u128_at};
 
-// Where the type stands.
-const TYPE_AT: usize = 12;
+/// The bytes of an Ethernet II head: two addresses and the type.
+pub const ETHERNET_LEN: usize = 14;
 
-// Where the network head begins.
-const ETHERNET_LEN: usize = 14;
+/// The bytes of a tag of IEEE 802.1Q, its type included.
+pub const TAG_LEN: usize = 4;
+
+/// Where the type stands, or that of a tag.
+pub(crate) const TYPE_AT: usize = 12;
 
 // Where the tag stands, if there is one.
 const TAG_AT: usize = 14;

@@ -19,5 +19,5 @@ mod words;
 pub use checksum::swap_word;
 pub use edits::{pop_tag, push_tag, set_macs, set_ttl, set_ttl_at};
 pub use flow::{FiveTuple, five_tuple, flow_hash};
-pub use heads::{Heads, Net, is_tagged, network, parse};
+pub use heads::{ETHERNET_LEN, Heads, Net, TAG_LEN, is_tagged, network, parse};
 pub use holding::holds;

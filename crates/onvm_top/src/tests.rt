@@ -42,13 +42,13 @@ const USAGE: &str =
 const SPACE: u64 = 4_200_000;
 
 fn list_of(alloc: Global, items: &[u64]) -> Result<ListOf<u64>, Fail> {
-    Ok(ListOf::from_vec(Vec::from_slice(alloc, items)?))
+    Ok(ListOf::from_slice(alloc, items)?)
 }
 
 fn file(alloc: Global, name: &str, bytes: &[u8], fail: &[u64]) -> Result<MemFile, Fail> {
     Ok(MemFile {
-        name: Text::from_vec(Vec::from_slice(alloc, name.as_bytes())?),
-        bytes: Text::from_vec(Vec::from_slice(alloc, bytes)?),
+        name: Text::from_slice(alloc, name.as_bytes())?,
+        bytes: Text::from_slice(alloc, bytes)?,
         fail: list_of(alloc, fail)?,
     })
 }

@@ -32,7 +32,7 @@ const META: Meta = Meta {
 fn balance(alloc: Global, numbers: &[u8]) -> Result<Route, NoMemory>
     requires { 0 < length numbers.now }
 {
-    let services = ListOf::from_vec(Vec::from_slice(alloc, numbers)?);
+    let services = ListOf::from_slice(alloc, numbers)?;
     Route::make(alloc, &Kind::Balance { services })
 }
 

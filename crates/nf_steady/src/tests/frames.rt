@@ -16,6 +16,13 @@ pub const UDP_HEADS: [u8; 42] = [
     0x27, 0x1e, 0, 9, 3, 0x8a, 0, 0, // UDP
 ];
 
+/// That frame, with its payload of 898 bytes.
+pub fn udp() -> [u8; 940] {
+    let mut frame = [1u8; 940];
+    frame[..42].copy_from_slice(&UDP_HEADS);
+    frame
+}
+
 /// UDP over IPv6, from 2001:db8::1 port 8080 to 2001:db8::2 port 53, cut behind the ports.
 pub const UDP_V6: [u8; 58] = [
     2, 0, 0, 0, 0, 1, 2, 0, 0, 0, 0, 2, 0x86, 0xdd, // Ethernet
@@ -24,10 +31,3 @@ pub const UDP_V6: [u8; 58] = [
     0x20, 1, 0x0d, 0xb8, 0, 0, 0, 0, 0, 0, 0, 0, 0, 0, 0, 2, // target
     0x1f, 0x90, 0, 53, // ports
 ];
-
-/// That frame whole, with its payload of 898 bytes.
-pub fn udp() -> [u8; 940] {
-    let mut frame = [1u8; 940];
-    frame[..42].copy_from_slice(&UDP_HEADS);
-    frame
-}

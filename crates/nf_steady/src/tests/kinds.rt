@@ -1,7 +1,7 @@
 //! What each kind answers, and the bytes that it leaves.
 
 ghost use Rattle.std.specs.Prelude.{◌≤◌, length, IsTrue};
-ghost use Rattle.nf_api.specs.Answers.{is_plain};
+ghost use Rattle.nf_api.specs.Answers.{is_steady};
 ghost use Rattle.onvm_base.specs.declared.limits.TheConstants.{MAX_FRAME_BYTES};
 
 use super::frames::{SHORT, TAGGED, UDP_HEADS, UDP_V6, udp};
@@ -18,7 +18,7 @@ const TAG: Kind = Kind::Tag {
 // The verdict of a function of this kind for a frame that port 1 received, and the packet that it
 // leaves.
 fn answered(alloc: Global, kind: &Kind, frame: &[u8]) -> Result<(Verdict, Packet), NoMemory>
-    requires plain { IsTrue (is_plain kind.now) }
+    requires steady { IsTrue (is_steady kind.now) }
     requires limit { length frame.now ≤ MAX_FRAME_BYTES }
 {
     let mut packet = Packet::from_slice(alloc, frame)?;
@@ -70,6 +70,7 @@ fn a_hop_limit_goes_down_like_a_ttl(rt: HostRuntime) -> Result<(), Fail> {
         (64, Verdict::Next, 63),
         (2, Verdict::Next, 1),
         (1, Verdict::Drop, 1),
+        (0, Verdict::Drop, 0),
     ] {
         let mut frame = UDP_V6;
         frame[21] = hops;
@@ -82,7 +83,7 @@ fn a_hop_limit_goes_down_like_a_ttl(rt: HostRuntime) -> Result<(), Fail> {
 }
 
 #[test]
-fn a_frame_without_a_network_head_has_no_life(rt: HostRuntime) -> Result<(), Fail> {
+fn a_frame_without_a_network_head_has_no_ttl(rt: HostRuntime) -> Result<(), Fail> {
     let (verdict, packet) = answered(rt.alloc(), &Kind::Ttl, &SHORT)?;
     assert_eq!(rt; verdict, Verdict::Next);
     assert_eq!(rt; packet.bytes(), &SHORT[..]);
@@ -117,6 +118,29 @@ fn a_frame_of_13_bytes_has_no_place_for_tag_or_addresses(rt: HostRuntime) -> Res
     Ok(())
 }
 
+#[test]
+fn a_frame_of_14_bytes_has_place_for_tag_and_addresses(rt: HostRuntime) -> Result<(), Fail> {
+    let macs = Kind::Macs {
+        target: [9; 6],
+        source: [8; 6],
+    };
+    let (_, packet) = answered(rt.alloc(), &macs, &SHORT[..14])?;
+    let frame = [9, 9, 9, 9, 9, 9, 8, 8, 8, 8, 8, 8, 0x88, 0xb5];
+    assert_eq!(rt; packet.bytes(), &frame[..]);
+    let (_, packet) = answered(rt.alloc(), &TAG, &SHORT[..14])?;
+    assert_eq!(rt; packet.bytes(), &TAGGED[..18]);
+    Ok(())
+}
+
+#[test]
+fn a_tag_is_taken_out_where_a_type_is_behind_it(rt: HostRuntime) -> Result<(), Fail> {
+    let (_, packet) = answered(rt.alloc(), &Kind::Untag, &TAGGED[..18])?;
+    assert_eq!(rt; packet.bytes(), &SHORT[..14]);
+    let (_, packet) = answered(rt.alloc(), &Kind::Untag, &TAGGED[..17])?;
+    assert_eq!(rt; packet.bytes(), &TAGGED[..17]);
+    Ok(())
+}
+
 // The verdict of a function that pushes a tag for a frame of so many bytes, all 7, and the packet
 // that it leaves.
 fn tagged(alloc: Global, len: usize) -> Result<(Verdict, Packet), NoMemory>
@@ -135,6 +159,7 @@ fn a_tag_that_makes_a_frame_too_long_drops_it(rt: HostRuntime) -> Result<(), Fai
     let (verdict, packet) = tagged(rt.alloc(), 262_140)?;
     assert_eq!(rt; verdict, Verdict::Next);
     assert_eq!(rt; packet.bytes().len(), 262_144);
+    assert_eq!(rt; packet.bytes()[12..16], [0x81, 0, 0x60, 5][..]);
     Ok(())
 }
 

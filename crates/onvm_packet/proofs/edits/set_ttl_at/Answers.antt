@@ -1,5 +1,4 @@
-use Rattle.std.proofs.Common.{◌∙◌, ap, sym, arith, ◌+◌}
-use Rattle.onvm_packet.proofs.Writing.{set-is_written}
+use Rattle.std.proofs.Common.{◌∙◌, ap, sym, arith}
 use Rattle.onvm_packet.specs.Edits.{ttl_written}
 use Rattle.onvm_packet.proofs.Within.{v4_read, v6_read}
 use Rattle.onvm_packet.proofs.edits.set_ttl_at.Goals as goal
@@ -12,8 +11,8 @@ set_ipv4_ttl-requires c =
     in
     omega (arith, within.least, within.whole)
 
-pub set-requires : goal.set-requires
-set-requires c =
+pub overwrite-requires : goal.overwrite-requires
+overwrite-requires c =
     let within =
     v6_read c.args.packet.now c.args.net.now c.requires.read
     c.in-V6.at c.in-V6.source c.in-V6.target c.in-V6.next c.in-V6.hops c.in-V6.is
@@ -22,10 +21,5 @@ set-requires c =
 
 pub returns-in-V6 : goal.returns-in-V6
 returns-in-V6 c =
-    let within =
-    v6_read c.args.packet.now c.args.net.now c.requires.read
-    c.in-V6.at c.in-V6.source c.in-V6.target c.in-V6.next c.in-V6.hops c.in-V6.is
-    in
     let head = sym c.requires.read ∙ c.in-V6.is in
-    c.set.ensures ∙ set-is_written c.args.packet.now (c.in-V6.at + 7) c.args.ttl (omega (arith, within))
-    ∙ sym (ap (λ n. ttl_written c.args.ttl n c.args.packet.now) head)
+    c.overwrite.ensures ∙ sym (ap (λ n. ttl_written c.args.ttl n c.args.packet.now) head)
