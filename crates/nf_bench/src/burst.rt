@@ -1,5 +1,6 @@
 //! Bursts of frames, and the time that a function takes for one.
 ghost use Rattle.std.specs.Prelude.{◌≤◌, length};
+ghost use Rattle.nf_bench.specs.declared.frames.TheConstants.{FRAME_BYTES, TARGET_BEFORE_END};
 
 use crate::frames::frame;
 use nf_api::{Meta, NetFunction};
@@ -7,8 +8,12 @@ use onvm_base::{ChainId, FrameId, NoMemory, Packet, PortId, Stamp, Verdict};
 use onvm_host::Clock;
 use std::alloc::Global;
 
-// Frames between two looks at the clock: few enough to stay in a processor's cache.
+// Frames between two looks at the clock, one for each value of a byte. They stay in a processor's
+// second cache.
 const BURST: usize = 256;
+
+// The bytes of a frame that some function of this program changes.
+const HEAD_BYTES: usize = 64;
 
 const META: Meta = Meta {
     frame: FrameId {
@@ -30,8 +35,9 @@ const META: Meta = Meta {
 pub struct Cost {
     // The least time in nanoseconds that one burst took.
     least: u64,
-    /// A sum over all answers: since it is printed, the compiler can leave none of them out.
-    pub answers: u64,
+    /// A sum over all verdicts and over the heads of the frames that were left. Since it is printed,
+    /// the compiler can leave out no work that it depends on.
+    pub sum: u64,
 }
 
 impl Cost {
@@ -49,42 +55,42 @@ pub fn cost_of<N: NetFunction, C: Clock>(
     head: &[u8],
     rounds: u32,
 ) -> Result<Cost, NoMemory>
-    requires least { 10 ≤ length head.now }
-    requires most { length head.now ≤ 100 }
+    requires least { TARGET_BEFORE_END ≤ length head.now }
+    requires most { length head.now ≤ FRAME_BYTES }
 {
     let mut cost = Cost {
         least: u64::MAX,
-        answers: 0,
+        sum: 0,
     };
     for _ in 0..rounds {
         // Made anew, since a function may have changed them.
         let mut burst = burst_of(alloc, head)?;
         let start = clock.now();
-        let answers = handle_all(function, &mut burst)?;
+        let verdicts = handle_all(function, &mut burst)?;
         cost.least = cost.least.min(clock.now().saturating_sub(start));
-        cost.answers = cost.answers.wrapping_add(answers);
+        cost.sum = cost.sum.wrapping_add(verdicts).wrapping_add(sum_of(&burst));
     }
     Ok(cost)
 }
 
 fn burst_of(alloc: Global, head: &[u8]) -> Result<Vec<Packet>, NoMemory>
-    requires least { 10 ≤ length head.now }
-    requires most { length head.now ≤ 100 }
+    requires least { TARGET_BEFORE_END ≤ length head.now }
+    requires most { length head.now ≤ FRAME_BYTES }
 {
     let mut burst = Vec::with_capacity(alloc, BURST)?;
-    for net in 0..=u8::MAX {
-        burst.push(frame(alloc, head, net)?)?;
+    for net in 0..BURST {
+        burst.push(frame(alloc, head, net as u8)?)?;
     }
     Ok(burst)
 }
 
 fn handle_all<N: NetFunction>(function: &mut N, burst: &mut [Packet]) -> Result<u64, NoMemory> {
-    let mut answers = 0u64;
+    let mut verdicts = 0u64;
     for packet in burst {
         let verdict = function.handle(packet, &META)?;
-        answers = answers.wrapping_add(number_of(verdict));
+        verdicts = verdicts.wrapping_add(number_of(verdict));
     }
-    Ok(answers)
+    Ok(verdicts)
 }
 
 fn number_of(verdict: Verdict) -> u64 {
@@ -94,4 +100,15 @@ fn number_of(verdict: Verdict) -> u64 {
         Verdict::ToService(service) => u64::from(service),
         Verdict::Out(port) => u64::from(port),
     }
+}
+
+// A sum over the heads of frames.
+fn sum_of(burst: &[Packet]) -> u64 {
+    let mut sum = 0u64;
+    for packet in burst {
+        for byte in packet.bytes().iter().take(HEAD_BYTES) {
+            sum = sum.wrapping_add(u64::from(*byte));
+        }
+    }
+    sum
 }

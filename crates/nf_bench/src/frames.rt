@@ -1,10 +1,11 @@
 //! The frames that are handled.
 ghost use Rattle.std.specs.Prelude.{◌≤◌, length};
+ghost use Rattle.nf_bench.specs.declared.frames.TheConstants.{FRAME_BYTES, TARGET_BEFORE_END};
 
 use onvm_base::{NoMemory, Packet};
 use std::alloc::Global;
 
-const FRAME_BYTES: usize = 512;
+pub const FRAME_BYTES: usize = 512;
 
 /// UDP over IPv4.
 pub const UDP: [u8; 42] = [
@@ -20,13 +21,13 @@ pub const TAGGED: [u8; 46] = [
     0x09, 0x03, 0x8a, 0x00, 0x00,
 ];
 
-// How far before the end of a head the third byte of the IPv4 target stands.
-const TARGET_BEFORE_END: usize = 10;
+/// How far before the end of a head the third byte of the IPv4 target stands.
+pub const TARGET_BEFORE_END: usize = 10;
 
 /// A frame with this head, to the address 10.1.`net`.1.
 pub fn frame(alloc: Global, head: &[u8], net: u8) -> Result<Packet, NoMemory>
-    requires least { 10 ≤ length head.now }
-    requires most { length head.now ≤ 100 }
+    requires least { TARGET_BEFORE_END ≤ length head.now }
+    requires most { length head.now ≤ FRAME_BYTES }
 {
     let mut bytes = [0; FRAME_BYTES];
     bytes[..head.len()].copy_from_slice(head);

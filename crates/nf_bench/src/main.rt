@@ -1,7 +1,8 @@
-//! The program `nf_bench`: measures what each kind of function costs per frame.
+//! The program `nf_bench`: measures what functions cost per frame.
 #![tactic(auto)]
 
 ghost use Rattle.std.specs.Prelude.{◌≤◌, length};
+ghost use Rattle.nf_bench.specs.declared.frames.TheConstants.{FRAME_BYTES, TARGET_BEFORE_END};
 
 mod burst;
 mod frames;
@@ -29,11 +30,11 @@ fn main(rt: HostRuntime) -> ExitCode {
     ExitCode::SUCCESS
 }
 
-// The one word behind the program's name, as a number.
+// The one word behind the program's name, as a number above 0.
 fn rounds(rt: &HostRuntime) -> Option<u32> {
     let words: Vec<String> = env::args(rt).ok()?.skip(1).collect(rt.alloc()).ok()?;
     match words.as_slice() {
-        [word] => word.parse().ok(),
+        [word] => word.parse().ok().filter(|rounds| *rounds > 0),
         _ => None,
     }
 }
@@ -68,17 +69,17 @@ fn measure<N: NetFunction>(
     head: &[u8],
     rounds: u32,
 ) -> Result<(), NoMemory>
-    requires least { 10 ≤ length head.now }
-    requires most { length head.now ≤ 100 }
+    requires least { TARGET_BEFORE_END ≤ length head.now }
+    requires most { length head.now ≤ FRAME_BYTES }
 {
     let clock = SysClock::make(*rt);
     let cost = cost_of(rt.alloc(), &clock, &mut function, head, rounds)?;
     let tenths = cost.per_frame();
     let _ = println!(rt;
-        "{name}: {}.{} ns, answers {}",
+        "{name}: {}.{} ns, sum {}",
         tenths / 10,
         tenths % 10,
-        cost.answers
+        cost.sum
     );
     Ok(())
 }

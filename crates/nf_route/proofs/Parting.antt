@@ -5,23 +5,23 @@ use Rattle.std.proofs.lemmas.Bool.{cases_Bool, cases_lt, true≢false}
 use Rattle.std.proofs.lemmas.Option.{get_or_from_slice_get, slice_get_within}
 use Rattle.onvm_base.specs.declared.function.RouteEntry.{RouteEntry}
 use Rattle.onvm_base.specs.declared.rules.Prefix.{Prefix}
-use Rattle.nf_api.specs.Routing.{covers}
+use Rattle.onvm_packet.specs.Holding.{covers_ipv4}
 use Rattle.nf_route.specs.Ranges.{AreBounds, Parts}
 
 -- a prefix that has the addresses from one up to another is parted by the two
-pub parted : (bounds : List ℕ) (prefix : Prefix) (first behind : ℕ)
-    → ((target : ℕ) → (covers prefix target ≡ true) ↔ ((first ≤ target) × (target < behind)))
-    → (first < 2 ^ 32 → Contains bounds first) → (behind < 2 ^ 32 → Contains bounds behind) → Parts bounds prefix
-parted bounds prefix first behind has begins ends = λ low high below address differ.
-    elim (cases_Bool (covers prefix low)) [
+pub parted : (bounds : List ℕ) (prefix : Prefix) (first end : ℕ)
+    → ((target : ℕ) → (covers_ipv4 prefix target ≡ true) ↔ ((first ≤ target) × (target < end)))
+    → (first < 2 ^ 32 → Contains bounds first) → (end < 2 ^ 32 → Contains bounds end) → Parts bounds prefix
+parted bounds prefix first end has begins ends = λ low high below address differ.
+    elim (cases_Bool (covers_ipv4 prefix low)) [
       | inl here ↦
           let row = (has low).0 here in
-          elim (cases_lt high behind) [
+          elim (cases_lt high end) [
             | inl within ↦ absurd (differ (here ∙ sym ((has high).1 (omega arith, within))))
-            | inr past ↦ (behind, ends (omega arith), row.1, past)
+            | inr past ↦ (end, ends (omega arith), row.1, past)
           ]
       | inr away ↦
-          elim (cases_Bool (covers prefix high)) [
+          elim (cases_Bool (covers_ipv4 prefix high)) [
             | inl here ↦
                 let row = (has high).0 here in
                 elim (cases_lt low first) [

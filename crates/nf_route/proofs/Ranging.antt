@@ -10,7 +10,8 @@ use Rattle.std.proofs.lemmas.Option.{get_or_from_slice_get, slice_get-get_or, sl
 use Rattle.onvm_base.specs.declared.function.RouteEntry.{RouteEntry}
 use Rattle.onvm_base.specs.declared.outcome.Verdict.{Verdict}
 use Rattle.onvm_base.specs.declared.outcome.Verdict.TheVariants.{Drop}
-use Rattle.nf_api.specs.Routing.{IsFound, covers}
+use Rattle.nf_api.specs.Routing.{IsFound}
+use Rattle.onvm_packet.specs.Holding.{covers_ipv4}
 use Rattle.nf_route.specs.Ranges.{AreBounds, AreOrdered, AreRanges, IsIn}
 use Rattle.nf_route.specs.declared.ranges.Range.{Range}
 
@@ -28,7 +29,7 @@ same_or_not a b = elim (cases_Bool a) [
 
 -- two addresses that each prefix has or hasn't alike have the same verdict
 same_found : (table : List RouteEntry) (low high : ℕ) (verdict : Verdict)
-    → ((i : ℕ) (entry : RouteEntry) → slice_get table i ≡ Some entry → covers entry.prefix low ≡ covers entry.prefix high)
+    → ((i : ℕ) (entry : RouteEntry) → slice_get table i ≡ Some entry → covers_ipv4 entry.prefix low ≡ covers_ipv4 entry.prefix high)
     → IsFound table low verdict → IsFound table high verdict
 same_found table low high verdict same found = elim found [
   | inl won ↦
@@ -134,7 +135,7 @@ module _ (table : List RouteEntry) (bounds : List ℕ) (ranges : List Range) (be
       elim (cases_lt range.first target) [
         | inl above ↦
             same_found table range.first target range.verdict
-            (λ i entry there. elim (same_or_not (covers entry.prefix range.first) (covers entry.prefix target)) [
+            (λ i entry there. elim (same_or_not (covers_ipv4 entry.prefix range.first) (covers_ipv4 entry.prefix target)) [
               | inl same ↦ same
               | inr differ ↦
                   let bound = are.part i entry there range.first target above address differ in

@@ -1,4 +1,4 @@
--- The kinds that pick where a frame goes by its addresses.
+-- The kinds that pick where a frame goes by its heads.
 use Rattle.onvm_base.specs.declared.function.Kind.{Kind}
 use Rattle.onvm_base.specs.declared.function.Kind.TheVariants as kind
 use Rattle.nf_route.specs.declared.kinds.Route.{Route}

@@ -4,13 +4,14 @@ use Rattle.std.specs.List.{Contains}
 use Rattle.std.specs.List.Sorted.{IsNonDecreasingBy}
 use Rattle.onvm_base.specs.declared.function.RouteEntry.{RouteEntry}
 use Rattle.onvm_base.specs.declared.rules.Prefix.{Prefix}
-use Rattle.nf_api.specs.Routing.{IsFound, covers}
+use Rattle.nf_api.specs.Routing.{IsFound}
+use Rattle.onvm_packet.specs.Holding.{covers_ipv4}
 use Rattle.nf_route.specs.declared.ranges.Range.{Range}
 
 -- where a prefix has one of two addresses and not the other, a bound lies above the lower one and not above the higher
 abbrev pub Parts : List ℕ → Prefix → Type 0
 Parts bounds prefix =
-    (low high : ℕ) → low < high → high < 2 ^ 32 → covers prefix low ≢ covers prefix high
+    (low high : ℕ) → low < high → high < 2 ^ 32 → covers_ipv4 prefix low ≢ covers_ipv4 prefix high
     → (bound : ℕ) × Contains bounds bound × (low < bound) × (bound ≤ high)
 
 -- 0 is a bound, and bounds part each prefix from the addresses that it hasn't

@@ -40,7 +40,7 @@ fn push_ends(bounds: &mut Vec<u32>, prefix: Prefix) -> Result<(), NoMemory>
 {
     let span = Span::of(prefix);
     push_address(bounds, span.first)?;
-    push_address(bounds, span.behind)?;
+    push_address(bounds, span.end)?;
     Ok(())
 }
 

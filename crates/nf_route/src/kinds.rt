@@ -1,8 +1,8 @@
-//! The kinds that pick where a frame goes by its addresses.
+//! The kinds that pick where a frame goes by its heads.
 ghost use Rattle.std.specs.Prelude.{◌≡◌, ◌<◌, ℕ, List, length, IfOk, IsTrue};
 ghost use Rattle.onvm_base.specs.declared.ids.PortId.{PortId};
 ghost use Rattle.onvm_base.specs.declared.function.Kind.TheVariants.{Balance};
-ghost use Rattle.nf_api.specs.Answers.{is_routing, ActsSteadily, IsAnswer};
+ghost use Rattle.nf_api.specs.Answers.{is_routing, ActsStatelessly, IsAnswer};
 ghost use Rattle.nf_api.specs.Routing.{IsRouted};
 ghost use Rattle.nf_api.specs.Tree.{nothing};
 ghost use Rattle.onvm_packet.specs.Heads.{net_of};
@@ -15,7 +15,7 @@ use onvm_base::{Kind, NoMemory, Packet, Verdict};
 use onvm_packet::{Net, flow_hash, network, parse};
 use std::alloc::Global;
 
-/// A function that sends a frame on by its addresses.
+/// A function that sends a frame on by its heads.
 #[derive(Debug, Drop)]
 pub enum Route {
     /// By the longest prefix that has the IPv4 target (RFC 1812, 5.2.4.3).
@@ -27,7 +27,7 @@ pub enum Route {
 impl Route {
     /// The function of a kind, whose parameters it copies.
     pub fn make(alloc: Global, kind: &Kind) -> Result<Route, NoMemory>
-        requires some { (services : List ℕ) → kind.now ≡ Balance services → 0 < length services }
+        requires not_empty { (services : List ℕ) → kind.now ≡ Balance services → 0 < length services }
         requires routing { IsTrue (is_routing kind.now) }
         ensures { IfOk result (λ route. kind_of route ≡ kind.now) }
     {
@@ -70,7 +70,9 @@ fn routed(table: &Table, net: &Net) -> Verdict
 impl NetFunction for Route {
     ghost state = { λ route. nothing };
 
-    ghost acts = { λ route. ActsSteadily (kind_of route) };
+    ghost acts = { λ route. ActsStatelessly (kind_of route) };
+
+    ghost wants = { λ route bytes. ⊥ };
 
     fn handle(&mut self, packet: &mut Packet, _meta: &Meta) -> Result<Verdict, NoMemory> {
         Ok(self.verdict(packet.bytes()))

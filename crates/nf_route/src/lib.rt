@@ -1,4 +1,4 @@
-//! The functions that pick where a frame goes by its addresses.
+//! The functions that pick where a frame goes by its heads.
 //!
 //! A *table* has entries in the order of the chain file, each a *prefix* and a step to a service or
 //! out of a port. The entry that wins for an address is the one with the longest prefix of those

@@ -1,7 +1,8 @@
 //! The entry that wins, by a look at each.
 ghost use Rattle.std.specs.Prelude.{◌≡◌, ◌<◌, ◌↔◌, true, Some, IsTrue, MatchOption};
 ghost use Rattle.onvm_base.specs.declared.function.RouteEntry.{RouteEntry};
-ghost use Rattle.nf_api.specs.Routing.{IsFound, NoneMatches, Wins, bits_of, covers, towards};
+ghost use Rattle.nf_api.specs.Routing.{IsFound, NoneMatches, Wins, length_of, towards};
+ghost use Rattle.onvm_packet.specs.Holding.{covers_ipv4};
 
 use crate::span::Span;
 use onvm_base::{ChainStep, Prefix, RouteEntry, Verdict};
@@ -31,9 +32,9 @@ fn winner(entries: &[RouteEntry], target: u32) -> Option<RouteEntry>
 
 // Whether an entry has the address, by a longer prefix than the best entry before it.
 fn takes_lead(entry: &RouteEntry, best: Option<RouteEntry>, target: u32) -> bool
-    ensures { IsTrue result ↔ ((covers entry.now.prefix target ≡ true)
+    ensures { IsTrue result ↔ ((covers_ipv4 entry.now.prefix target ≡ true)
         × ((other : RouteEntry) → best ≡ Some other
-        → bits_of other.prefix < bits_of entry.now.prefix)) }
+        → length_of other.prefix < length_of entry.now.prefix)) }
 {
     Span::of(entry.prefix).has(target) && is_longer(entry.prefix, best)
 }
@@ -41,19 +42,21 @@ fn takes_lead(entry: &RouteEntry, best: Option<RouteEntry>, target: u32) -> bool
 // Whether a prefix is longer than the one of the best entry, if there is one.
 fn is_longer(prefix: Prefix, best: Option<RouteEntry>) -> bool
     ensures { IsTrue result ↔ ((other : RouteEntry) → best ≡ Some other
-        → bits_of other.prefix < bits_of prefix) }
+        → length_of other.prefix < length_of prefix) }
 {
     match best {
-        Some(other) => bits_of(other.prefix) < bits_of(prefix),
+        Some(other) => length_of(other.prefix) < length_of(prefix),
         None => true,
     }
 }
 
-fn bits_of(prefix: Prefix) -> u8
-    ensures { result ≡ bits_of prefix }
+// How many bits of an address a prefix fixes.
+fn length_of(prefix: Prefix) -> u8
+    ensures { result ≡ length_of prefix }
 {
     match prefix {
-        Prefix::V4 { length, .. } | Prefix::V6 { length, .. } => length,
+        Prefix::V4 { length, .. } => length.min(32),
+        Prefix::V6 { length, .. } => length.min(128),
     }
 }
 

@@ -21,7 +21,7 @@ pub fn ranges_of(alloc: Global, entries: &[RouteEntry]) -> Result<Vec<Range>, No
     ensures { IfOk result (λ ranges. AreRanges entries.now ranges.items) }
 {
     let bounds = bounds_of(alloc, entries)?;
-    let mut ranges = Vec::new(alloc);
+    let mut ranges = Vec::with_capacity(alloc, bounds.len())?;
     for bound in &bounds {
         let first = *bound;
         let verdict = find(entries, first);

@@ -7,17 +7,18 @@ fn a_packet_grows_and_shrinks_in_its_middle(rt: HostRuntime) -> Result<(), Fail>
     let mut packet = Packet::from_slice(rt.alloc(), &[1, 2, 3, 4])?;
     packet.replace(1, 3, &[7, 8, 9])?;
     assert_eq!(rt; packet.bytes(), [1, 7, 8, 9, 4].as_slice());
-    packet.set(0, 5);
-    packet.replace(1, 4, &[])?;
-    assert_eq!(rt; packet.bytes(), [5, 4].as_slice());
+    packet.overwrite(0, &[5, 6]);
+    packet.set(4, 3);
+    packet.replace(2, 4, &[])?;
+    assert_eq!(rt; packet.bytes(), [5, 6, 3].as_slice());
     Ok(())
 }
 
 #[test]
 fn room_that_was_made_takes_as_many_items(rt: HostRuntime) -> Result<(), Fail> {
-    let mut list = ListOf::make(rt.alloc());
-    list.reserve(3)?;
-    for item in [4u8, 5, 6] {
+    let mut list = ListOf::from_slice(rt.alloc(), &[4u8])?;
+    list.reserve(2)?;
+    for item in [5, 6] {
         list.push(item)?;
     }
     assert_eq!(rt; list.as_slice(), [4, 5, 6].as_slice());

@@ -8,5 +8,5 @@ use std::alloc::Global;
 pub(crate) fn copy_of(alloc: Global, name: &str) -> Result<Name, NoMemory>
     ensures { IfOk result (λ copy. copy ≡ name.now) }
 {
-    Ok(ListOf::from_slice(alloc, name.as_bytes())?)
+    ListOf::from_slice(alloc, name.as_bytes())
 }

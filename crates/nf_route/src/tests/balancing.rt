@@ -4,7 +4,7 @@ ghost use Rattle.std.specs.Prelude.{◌<◌, length};
 use super::frames::{SHORT, UDP, route_of};
 use crate::Route;
 use nf_api::Meta;
-use nf_api::laws::packets_in_turn_are_a_journal;
+use nf_api::laws::two_packets_are_a_journal;
 use onvm_base::{
     ChainId, ChainStep, FrameId, Kind, ListOf, NoMemory, Packet, PortId, Prefix, RouteEntry, Stamp,
     Verdict,
@@ -58,7 +58,7 @@ fn balanced_packets_leave_as_they_came(rt: HostRuntime) -> Result<(), Fail> {
     let mut first = udp_packet(rt.alloc())?;
     let mut second = Packet::from_slice(rt.alloc(), &SHORT)?;
     let mut route = balance(rt.alloc(), &[7, 8, 9, 10, 11])?;
-    let verdicts = packets_in_turn_are_a_journal(&mut route, &mut first, &mut second, &META)?;
+    let verdicts = two_packets_are_a_journal(&mut route, &mut first, &mut second, &META)?;
     assert_eq!(rt; verdicts, (Verdict::ToService(11), Verdict::ToService(8)));
     let as_it_came = udp_packet(rt.alloc())?;
     assert_eq!(rt; first.bytes(), as_it_came.bytes());
@@ -76,7 +76,7 @@ fn routed_packets_leave_as_they_came(rt: HostRuntime) -> Result<(), Fail> {
     };
     let target = ChainStep::To(9);
     let mut route = route_of(rt.alloc(), &[RouteEntry { prefix, target }])?;
-    let verdicts = packets_in_turn_are_a_journal(&mut route, &mut first, &mut second, &META)?;
+    let verdicts = two_packets_are_a_journal(&mut route, &mut first, &mut second, &META)?;
     assert_eq!(rt; verdicts, (Verdict::ToService(9), Verdict::Drop));
     let as_it_came = udp_packet(rt.alloc())?;
     assert_eq!(rt; first.bytes(), as_it_came.bytes());

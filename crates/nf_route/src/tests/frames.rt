@@ -23,5 +23,5 @@ pub fn route_of(alloc: Global, entries: &[RouteEntry]) -> Result<Route, NoMemory
 
 /// These entries, as a chain file has them.
 pub fn list_of(alloc: Global, entries: &[RouteEntry]) -> Result<RouteList, NoMemory> {
-    Ok(ListOf::from_slice(alloc, entries)?)
+    ListOf::from_slice(alloc, entries)
 }

@@ -46,11 +46,14 @@ fn a_frame_that_no_entry_has_is_dropped(rt: HostRuntime) -> Result<(), Fail> {
 }
 
 #[test]
-fn a_frame_without_an_ipv4_head_is_dropped_even_where_all_addresses_are(
+fn a_frame_without_an_ipv4_head_is_dropped_even_by_a_table_of_all_addresses(
     rt: HostRuntime,
 ) -> Result<(), Fail> {
     let route = route_of(rt.alloc(), &[entry(0, 0, ChainStep::Out(1))])?;
+    let mut ipv6 = [0; 54];
+    ipv6[12..15].copy_from_slice(&[0x86, 0xdd, 0x60]);
     assert_eq!(rt; route.verdict(&SHORT), Verdict::Drop);
+    assert_eq!(rt; route.verdict(&ipv6), Verdict::Drop);
     assert_eq!(rt; route.verdict(&UDP), Verdict::Out(1));
     Ok(())
 }
@@ -83,6 +86,22 @@ fn a_prefix_has_its_first_and_its_last_address_and_none_beside_them(
     ] {
         assert_eq!(rt; table.find(target), verdict, "{target}");
     }
+    Ok(())
+}
+
+#[test]
+fn an_ipv6_prefix_has_no_ipv4_address(rt: HostRuntime) -> Result<(), Fail> {
+    let ipv6 = RouteEntry {
+        prefix: Prefix::V6 {
+            address: 0,
+            length: 0,
+        },
+        target: ChainStep::Out(1),
+    };
+    let route = route_of(rt.alloc(), &[ipv6, entry(0x0a01_0000, 16, ChainStep::To(9))])?;
+    assert_eq!(rt; route.verdict(&UDP), Verdict::ToService(9));
+    let route = route_of(rt.alloc(), &[ipv6])?;
+    assert_eq!(rt; route.verdict(&UDP), Verdict::Drop);
     Ok(())
 }
 

@@ -17,7 +17,7 @@ returns-clause-ok c =
     let over : c.deref_mut.result.now ≡ moved s w (take growth w) c.args.from c.args.upto c.requires.start there enough =
     c.deref_mut.ensures.value ∙ c.copy_within.ensures.items ∙ rw (room, same_len) refl in
     let put : take (length s - (c.args.upto - c.args.from) + length w) c.overwrite.new.bytes
-        ≡ take c.args.from s ++ (w ++ drop c.args.upto s) =
+    ≡ take c.args.from s ++ (w ++ drop c.args.upto s) =
     rw (c.overwrite.ensures, over) (replaced s w (take growth w) c.args.from c.args.upto c.requires.start there enough) in
     c.truncate.ensures.items
     ∙ ap (take _) (with_items_is c.copy_within.new.self c.overwrite.new.bytes (omega arith))
