@@ -1,7 +1,7 @@
 # make test    the merge gate: every proof, test and must-fail edit, then the repository's own checks
 # make run     replays the first example, and prints what was emitted
-# make bench   the program beside other ones that copy captures, and what each kind of function
-#              costs per frame; never part of a test
+# make bench   the program beside other ones that copy captures, and what functions cost per frame;
+#              never part of a test
 # make build   proves and builds the program, where a source is newer than it
 
 SHELL := /bin/bash
