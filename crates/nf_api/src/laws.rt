@@ -34,17 +34,17 @@ pub fn two_packets_are_a_journal<N: NetFunction>(
 ) -> Result<(Verdict, Verdict), NoMemory>
     ensures journal { IfOk result (λ verdicts. (between : Tree)
         × ⟦<N as NetFunction>⟧.acts function.old (⟦<N as NetFunction>⟧.state function.old)
-            first.old meta.now verdicts.0 first.new between
+        first.old meta.now verdicts.0 first.new between
         × ⟦<N as NetFunction>⟧.acts function.old between
-            second.old meta.now verdicts.1 second.new (⟦<N as NetFunction>⟧.state function.new)) }
+        second.old meta.now verdicts.1 second.new (⟦<N as NetFunction>⟧.state function.new)) }
     ensures kept { Narrows (⟦<N as NetFunction>⟧.acts function.new) (⟦<N as NetFunction>⟧.acts function.old) }
     ensures second { OnErr result (second.new ≡ second.old) }
     ensures first { OnErr result (
         ((first.new ≡ first.old)
-            × (⟦<N as NetFunction>⟧.state function.new ≡ ⟦<N as NetFunction>⟧.state function.old))
+        × (⟦<N as NetFunction>⟧.state function.new ≡ ⟦<N as NetFunction>⟧.state function.old))
         ⊎ ((verdict : Verdict)
-            × ⟦<N as NetFunction>⟧.acts function.old (⟦<N as NetFunction>⟧.state function.old)
-                first.old meta.now verdict first.new (⟦<N as NetFunction>⟧.state function.new))) }
+        × ⟦<N as NetFunction>⟧.acts function.old (⟦<N as NetFunction>⟧.state function.old)
+        first.old meta.now verdict first.new (⟦<N as NetFunction>⟧.state function.new))) }
 {
     let verdict = function.handle(first, meta)?;
     Ok((verdict, function.handle(second, meta)?))

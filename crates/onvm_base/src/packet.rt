@@ -64,6 +64,17 @@ impl Packet {
         Ok(())
     }
 
+    /// Takes the bytes from `from` up to `upto` out. It takes no memory.
+    pub fn remove(&mut self, from: usize, upto: usize)
+        requires start { from ≤ upto }
+        requires within { upto ≤ length self.old }
+        ensures { self.new ≡ take from self.old ++ drop upto self.old }
+    {
+        let len = self.bytes.len();
+        self.bytes.copy_within(upto..len, from);
+        self.bytes.truncate(len - (upto - from));
+    }
+
     /// Writes bytes over those from `at` on.
     pub fn overwrite(&mut self, at: usize, over: &[u8])
         requires { at + length over.now ≤ length self.old }

@@ -9,8 +9,10 @@ fn a_packet_grows_and_shrinks_in_its_middle(rt: HostRuntime) -> Result<(), Fail>
     assert_eq!(rt; packet.bytes(), [1, 7, 8, 9, 4].as_slice());
     packet.overwrite(0, &[5, 6]);
     packet.set(4, 3);
-    packet.replace(2, 4, &[])?;
-    assert_eq!(rt; packet.bytes(), [5, 6, 3].as_slice());
+    packet.replace(2, 4, &[8])?;
+    assert_eq!(rt; packet.bytes(), [5, 6, 8, 3].as_slice());
+    packet.remove(1, 3);
+    assert_eq!(rt; packet.bytes(), [5, 3].as_slice());
     Ok(())
 }
 

@@ -73,6 +73,5 @@ pub fn pop_tag(packet: &mut Packet)
 {
     let len = packet.bytes().len();
     prove!(len >= TYPE_AT + TAG_LEN);
-    // To take bytes out is never refused.
-    let _ = packet.replace(TYPE_AT, TYPE_AT + TAG_LEN, &[]);
+    packet.remove(TYPE_AT, TYPE_AT + TAG_LEN);
 }

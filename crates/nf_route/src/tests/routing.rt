@@ -98,7 +98,10 @@ fn an_ipv6_prefix_has_no_ipv4_address(rt: HostRuntime) -> Result<(), Fail> {
         },
         target: ChainStep::Out(1),
     };
-    let route = route_of(rt.alloc(), &[ipv6, entry(0x0a01_0000, 16, ChainStep::To(9))])?;
+    let route = route_of(
+        rt.alloc(),
+        &[ipv6, entry(0x0a01_0000, 16, ChainStep::To(9))],
+    )?;
     assert_eq!(rt; route.verdict(&UDP), Verdict::ToService(9));
     let route = route_of(rt.alloc(), &[ipv6])?;
     assert_eq!(rt; route.verdict(&UDP), Verdict::Drop);
