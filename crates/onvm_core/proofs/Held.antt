@@ -397,7 +397,7 @@ second_is_first (suc k) e = let off : None ≡ Some 1 = e in cc
 
 not_of_chain : IsOfChain setting.plan e3.chain 1 → ⊥
 not_of_chain of =
-    second_is_first of.place (subst (λ s. slice_get (instances s setting.plan.functions) of.instance ≡ Some 1)
+    second_is_first of.place (subst (λ s. slice_get (instances s setting.plan.functions) of.place ≡ Some 1)
     (step_of of.at of.service of.named) of.found)
 
 -- no throttle by a function of another chain is earned, whatever was posted
