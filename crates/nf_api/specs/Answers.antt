@@ -9,12 +9,10 @@ use Rattle.onvm_base.specs.declared.outcome.Verdict.TheVariants.{Drop, Next, ToS
 use Rattle.onvm_base.specs.declared.rules.Tests.{Tests}
 use Rattle.onvm_packet.specs.Edits.{with_ttl, with_macs, with_tag, without_tag}
 use Rattle.onvm_packet.specs.Flow.{flow_hash_of}
-use Rattle.onvm_packet.specs.Heads.{heads_of, is_tagged, net_of}
+use Rattle.onvm_packet.specs.Heads.{heads_of, is_tagged, net_of, ttl_of}
 use Rattle.onvm_packet.specs.Holding.{do_hold}
 use Rattle.onvm_packet.specs.declared.heads.Heads.{Heads}
-use Rattle.onvm_packet.specs.declared.heads.Net.{Net}
 use Rattle.onvm_packet.specs.declared.heads.TheConstants.{ETHERNET_LEN, TAG_LEN}
-use Rattle.onvm_packet.specs.declared.heads.Net.TheVariants as net
 use Rattle.nf_api.specs.Routing.{IsRouted}
 use Rattle.nf_api.specs.Acts.{Acts}
 
@@ -28,12 +26,6 @@ does_match (tests ∷ rest) port heads = if do_hold tests port heads then true e
 
 abbrev pub filtered : List Tests → PortId → List ℕ → Answer
 filtered tests port bytes = (if does_match tests port (heads_of bytes) then Drop else Next, bytes)
-
--- the TTL of an IPv4 head or the hop limit of an IPv6 head
-abbrev pub ttl_of : Net → Option ℕ
-ttl_of net.None = None
-ttl_of (net.V4 at source target protocol ttl) = Some ttl
-ttl_of (net.V6 at source target next hops) = Some hops
 
 -- RFC 1812, 5.3.1, and RFC 8200, 3: a forwarded frame has one less, and none is forwarded with 0
 abbrev pub decremented : Option ℕ → List ℕ → Answer

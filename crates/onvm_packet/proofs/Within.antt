@@ -1,11 +1,10 @@
 -- A network head that is read lies in the frame.
-use Rattle.std.proofs.Common.{◌≡◌, ◌∙◌, sym, subst, ℕ, ◌+◌, ◌*◌, ◌/◌, ◌≤◌, Bool, true, List, length, nat_le, ◌==◌, ◌&&◌}
+use Rattle.std.proofs.Common.{◌≡◌, ℕ, ◌+◌, ◌*◌, ◌/◌, ◌≤◌, Bool, true, List, length, nat_le, ◌==◌, ◌&&◌}
 use Rattle.std.proofs.lemmas.Bool.{and_parts, eqb-true, leb-true, cond_both}
 use Rattle.onvm_packet.specs.Heads.{is_ipv4, is_ipv6, net_at, net_of, type_at, words_at}
 use Rattle.onvm_packet.specs.Bytes.{byte, number}
 use Rattle.onvm_packet.specs.Within.{IsIpv4Within, IsWithin}
 use Rattle.onvm_packet.specs.declared.heads.Net.{Net}
-use Rattle.onvm_packet.specs.declared.heads.Net.TheVariants as net
 
 pub ipv4_within : (at : ℕ) (bytes : List ℕ) → is_ipv4 at bytes ≡ true → IsIpv4Within at bytes
 ipv4_within at bytes is =
@@ -34,15 +33,3 @@ net_at_within ethertype at bytes =
 
 pub net_within : (bytes : List ℕ) → IsWithin (net_of bytes) bytes
 net_within bytes = net_at_within (number 2 (type_at bytes) bytes) (type_at bytes + 2) bytes
-
--- the same of a network head that was read
-module _ (bytes : List ℕ) (head : Net) (read : head ≡ net_of bytes) where
-  pub v4_read : (at source target protocol ttl : ℕ) → head ≡ net.V4 at source target protocol ttl → IsIpv4Within at bytes
-  v4_read at source target protocol ttl is =
-      let P : Net → Type 0 = λ n. IsWithin n bytes in
-      subst P (sym read ∙ is) (net_within bytes)
-
-  pub v6_read : (at source target next hops : ℕ) → head ≡ net.V6 at source target next hops → at + 40 ≤ length bytes
-  v6_read at source target next hops is =
-      let P : Net → Type 0 = λ n. IsWithin n bytes in
-      subst P (sym read ∙ is) (net_within bytes)

@@ -52,6 +52,12 @@ net_at ethertype at bytes =
 abbrev pub net_of : List ℕ → Net
 net_of bytes = net_at (number 2 (type_at bytes) bytes) (type_at bytes + 2) bytes
 
+-- the TTL of an IPv4 head or the hop limit of an IPv6 head
+abbrev pub ttl_of : Net → Option ℕ
+ttl_of net.None = None
+ttl_of (net.V4 at source target protocol ttl) = Some ttl
+ttl_of (net.V6 at source target next hops) = Some hops
+
 -- RFC 791, 3.1: the more-fragments bit and the fragment offset are the low 14 bits of bytes 6 and 7
 abbrev pub is_fragment : ℕ → List ℕ → Bool
 is_fragment at bytes = not (number 2 (at + 6) bytes % 16384 == 0)

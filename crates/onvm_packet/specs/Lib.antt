@@ -4,4 +4,5 @@ pub mod Edits
 pub mod Flow
 pub mod Heads
 pub mod Holding
+pub mod Places
 pub mod Within

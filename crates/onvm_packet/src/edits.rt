@@ -1,5 +1,6 @@
 //! Edits of a frame's bytes.
 ghost use Rattle.std.specs.Prelude.{◌≡◌, ◌≢◌, ◌+◌, ◌≤◌, length, IsTrue, OnOk, OnErr};
+ghost use Rattle.onvm_packet.specs.Bytes.{byte};
 ghost use Rattle.onvm_packet.specs.Heads.{net_of, is_tagged};
 ghost use Rattle.onvm_packet.specs.Edits.{written, ipv4_ttl_written, with_ttl, with_macs, with_tag, without_tag};
 ghost use Rattle.onvm_base.specs.declared.limits.TheConstants.{MAX_FRAME_BYTES};
@@ -7,8 +8,8 @@ ghost use Rattle.onvm_packet.specs.declared.heads.Net.TheVariants as net;
 ghost use Rattle.onvm_packet.specs.declared.heads.TheConstants.{ETHERNET_LEN, TAG_LEN};
 
 use crate::checksum::swap_word;
-use crate::heads::{Net, TAG_LEN, TYPE_AT, network};
-use crate::words::u16_at;
+use crate::heads::{Place, TAG_LEN, TYPE_AT, locate};
+use crate::words::{u8_at, u16_at};
 use onvm_base::{NoMemory, Packet};
 
 /// Sets the TTL of an IPv4 head, with its checksum, or the hop limit of an IPv6 head.
@@ -16,27 +17,19 @@ pub fn set_ttl(packet: &mut Packet, ttl: u8)
     requires network { net_of packet.old ≢ net.None }
     ensures { packet.new ≡ with_ttl ttl packet.old }
 {
-    let net = network(packet.bytes());
-    set_ttl_at(packet, &net, ttl);
-}
-
-/// [`set_ttl`] where the network head of this packet has been read. Without one nothing changes.
-pub fn set_ttl_at(packet: &mut Packet, net: &Net, ttl: u8)
-    requires read { net.now ≡ net_of packet.old }
-    ensures { packet.new ≡ with_ttl ttl packet.old }
-{
-    match *net {
-        Net::None => {}
-        Net::V4 { at, protocol, .. } => set_ipv4_ttl(packet, at as usize, ttl, protocol),
-        Net::V6 { at, .. } => packet.overwrite(at as usize + 7, &[ttl]),
+    match locate(packet.bytes()) {
+        Place::None => {}
+        Place::V4(at) => set_ipv4_ttl(packet, at, ttl),
+        Place::V6(at) => packet.overwrite(at + 7, &[ttl]),
     }
 }
 
 // Sets the TTL and the checksum of the IPv4 header that begins at an offset.
-fn set_ipv4_ttl(packet: &mut Packet, at: usize, ttl: u8, protocol: u8)
+fn set_ipv4_ttl(packet: &mut Packet, at: usize, ttl: u8)
     requires { at + 20 ≤ length packet.old }
-    ensures { packet.new ≡ ipv4_ttl_written ttl protocol at packet.old }
+    ensures { packet.new ≡ ipv4_ttl_written ttl (byte (at + 9) packet.old) at packet.old }
 {
+    let protocol = u8_at(packet.bytes(), at + 9);
     let sum = u16_at(packet.bytes(), at + 10);
     let old = u16_at(packet.bytes(), at + 8);
     let new = u16::from_be_bytes([ttl, protocol]);

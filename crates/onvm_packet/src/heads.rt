@@ -1,7 +1,8 @@
 //! The heads of a frame.
 ghost use Rattle.std.specs.Prelude.{◌≡◌, ◌+◌, ◌<◌, ◌≤◌, length, IsTrue};
 ghost use Rattle.onvm_packet.specs.Bytes.{number};
-ghost use Rattle.onvm_packet.specs.Heads.{heads_of, is_tagged, type_at, net_of, net_at, ports_of, is_ipv4, is_ipv6, ipv4_at, ipv6_at, is_fragment, ports_at};
+ghost use Rattle.onvm_packet.specs.Heads.{heads_of, is_tagged, type_at, net_of, net_at, ports_of, is_ipv4, is_ipv6, ipv4_at, ipv6_at, is_fragment, ports_at, ttl_of};
+ghost use Rattle.onvm_packet.specs.Places.{IsPlace};
 
 use crate::words::{u8_at, u16_at, u32_at, u128_at};
 
@@ -68,6 +69,14 @@ pub enum Net {
     },
 }
 
+// The version of a network head, and where it begins.
+#[derive(Clone, Copy, Debug, PartialEq, Eq)]
+pub(crate) enum Place {
+    None,
+    V4(usize),
+    V6(usize),
+}
+
 /// Reads the heads of a frame.
 pub fn parse(bytes: &[u8]) -> Heads
     ensures { result ≡ heads_of bytes.now }
@@ -92,15 +101,45 @@ pub fn parse(bytes: &[u8]) -> Heads
 pub fn network(bytes: &[u8]) -> Net
     ensures { result ≡ net_of bytes.now }
 {
-    if bytes.len() < ETHERNET_LEN {
-        return Net::None;
+    match locate(bytes) {
+        Place::None => Net::None,
+        Place::V4(at) => ipv4(at, bytes),
+        Place::V6(at) => ipv6(at, bytes),
     }
-    let at = if is_tagged(bytes) {
+}
+
+/// Reads the TTL of an IPv4 head or the hop limit of an IPv6 head.
+pub fn ttl(bytes: &[u8]) -> Option<u8>
+    ensures { result ≡ ttl_of (net_of bytes.now) }
+{
+    match locate(bytes) {
+        Place::None => None,
+        Place::V4(at) => Some(u8_at(bytes, at + 8)),
+        Place::V6(at) => Some(u8_at(bytes, at + 7)),
+    }
+}
+
+// Where the network head begins.
+pub(crate) fn locate(bytes: &[u8]) -> Place
+    ensures { IsPlace result bytes.now }
+{
+    if bytes.len() < ETHERNET_LEN {
+        return Place::None;
+    }
+    let type_at = if is_tagged(bytes) {
         TAGGED_TYPE_AT
     } else {
         TYPE_AT
     };
-    read_net(u16_at(bytes, at), at + 2, bytes).0
+    let ethertype = u16_at(bytes, type_at);
+    let at = type_at + 2;
+    if ethertype == IPV4_TYPE && is_ipv4(at, bytes) {
+        Place::V4(at)
+    } else if ethertype == IPV6_TYPE && is_ipv6(at, bytes) {
+        Place::V6(at)
+    } else {
+        Place::None
+    }
 }
 
 /// Whether a tag, and a type behind it, follow the addresses.
@@ -164,21 +203,27 @@ fn read_ipv4(at: usize, bytes: &[u8]) -> (Net, Option<(u16, u16)>)
     ensures net { result.0 ≡ ipv4_at at bytes.now }
     ensures ports { result.1 ≡ ports_of (ipv4_at at bytes.now) bytes.now }
 {
-    let protocol = u8_at(bytes, at + 9);
-    let net = Net::V4 {
-        at: at as u32,
-        source: u32_at(bytes, at + 12),
-        target: u32_at(bytes, at + 16),
-        protocol,
-        ttl: u8_at(bytes, at + 8),
-    };
     let words = bytes[at] % 16;
     let ports = if is_fragment(at, bytes) {
         None
     } else {
-        read_ports(protocol, at + 4 * words as usize, bytes)
+        read_ports(u8_at(bytes, at + 9), at + 4 * words as usize, bytes)
     };
-    (net, ports)
+    (ipv4(at, bytes), ports)
+}
+
+fn ipv4(at: usize, bytes: &[u8]) -> Net
+    requires short { at < 100 }
+    requires whole { at + 20 ≤ length bytes.now }
+    ensures { result ≡ ipv4_at at bytes.now }
+{
+    Net::V4 {
+        at: at as u32,
+        source: u32_at(bytes, at + 12),
+        target: u32_at(bytes, at + 16),
+        protocol: u8_at(bytes, at + 9),
+        ttl: u8_at(bytes, at + 8),
+    }
 }
 
 // Whether the IPv4 header that begins at an offset is that of a fragment.
@@ -204,15 +249,22 @@ fn read_ipv6(at: usize, bytes: &[u8]) -> (Net, Option<(u16, u16)>)
     ensures net { result.0 ≡ ipv6_at at bytes.now }
     ensures ports { result.1 ≡ ports_of (ipv6_at at bytes.now) bytes.now }
 {
-    let next = u8_at(bytes, at + 6);
-    let net = Net::V6 {
+    let ports = read_ports(u8_at(bytes, at + 6), at + 40, bytes);
+    (ipv6(at, bytes), ports)
+}
+
+fn ipv6(at: usize, bytes: &[u8]) -> Net
+    requires short { at < 100 }
+    requires whole { at + 40 ≤ length bytes.now }
+    ensures { result ≡ ipv6_at at bytes.now }
+{
+    Net::V6 {
         at: at as u32,
         source: u128_at(bytes, at + 8),
         target: u128_at(bytes, at + 24),
-        next,
+        next: u8_at(bytes, at + 6),
         hops: u8_at(bytes, at + 7),
-    };
-    (net, read_ports(next, at + 40, bytes))
+    }
 }
 
 // The ports that stand at an offset behind a head of this protocol.

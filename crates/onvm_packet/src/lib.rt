@@ -17,7 +17,7 @@ mod tests;
 mod words;
 
 pub use checksum::swap_word;
-pub use edits::{pop_tag, push_tag, set_macs, set_ttl, set_ttl_at};
+pub use edits::{pop_tag, push_tag, set_macs, set_ttl};
 pub use flow::{FiveTuple, five_tuple, flow_hash};
-pub use heads::{ETHERNET_LEN, Heads, Net, TAG_LEN, is_tagged, network, parse};
+pub use heads::{ETHERNET_LEN, Heads, Net, TAG_LEN, is_tagged, network, parse, ttl};
 pub use holding::holds;
