@@ -1,7 +1,7 @@
 //! The entry that wins, by a look at each.
 ghost use Rattle.std.specs.Prelude.{◌≡◌, ◌<◌, ◌↔◌, true, Some, IsTrue, MatchOption};
 ghost use Rattle.onvm_base.specs.declared.function.RouteEntry.{RouteEntry};
-ghost use Rattle.nf_api.specs.Routing.{IsFound, NoneMatches, Wins, length_of, towards};
+ghost use Rattle.nf_api.specs.Routing.{IsFound, NoneMatches, Wins, length_of, verdict_towards};
 ghost use Rattle.onvm_packet.specs.Holding.{covers_ipv4};
 
 use crate::span::Span;
@@ -12,7 +12,7 @@ pub fn find(entries: &[RouteEntry], target: u32) -> Verdict
     ensures { IsFound entries.now target result }
 {
     match winner(entries, target) {
-        Some(entry) => towards(entry.target),
+        Some(entry) => verdict_towards(entry.target),
         None => Verdict::Drop,
     }
 }
@@ -61,8 +61,8 @@ fn length_of(prefix: Prefix) -> u8
 }
 
 // The verdict that sends a frame to a target.
-fn towards(target: ChainStep) -> Verdict
-    ensures { result ≡ towards target }
+fn verdict_towards(target: ChainStep) -> Verdict
+    ensures { result ≡ verdict_towards target }
 {
     match target {
         ChainStep::To(service) => Verdict::ToService(service),

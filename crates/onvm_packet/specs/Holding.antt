@@ -9,9 +9,9 @@ use Rattle.onvm_packet.specs.declared.heads.Net.{Net}
 use Rattle.onvm_packet.specs.declared.heads.Net.TheVariants as net
 
 -- a test that isn't there holds
-abbrev pub asked : {A : Type 0} → Option A → (A → Bool) → Bool
-asked None test = true
-asked (Some wanted) test = test wanted
+abbrev pub holds_if_asked : {A : Type 0} → Option A → (A → Bool) → Bool
+holds_if_asked None test = true
+holds_if_asked (Some wanted) test = test wanted
 
 -- a part that the frame hasn't is none that is wanted
 abbrev pub is_part : Option ℕ → ℕ → Bool
@@ -61,11 +61,11 @@ has_target_port (Some ports) range = is_from range ports.1
 -- all tests hold for a frame with these heads that a port received
 abbrev pub do_hold : Tests → PortId → Heads → Bool
 do_hold tests port heads =
-    asked tests.port (λ wanted. port.0 == wanted)
-    && asked tests.vlan (is_part heads.vlan)
-    && asked tests.ethertype (is_part heads.ethertype)
-    && asked tests.src (has_source heads.net)
-    && asked tests.dst (has_target heads.net)
-    && asked tests.protocol (is_part (protocol_of heads.net))
-    && asked tests.src_ports (has_source_port heads.ports)
-    && asked tests.dst_ports (has_target_port heads.ports)
+    holds_if_asked tests.port (λ wanted. port.0 == wanted)
+    && holds_if_asked tests.vlan (is_part heads.vlan)
+    && holds_if_asked tests.ethertype (is_part heads.ethertype)
+    && holds_if_asked tests.src (has_source heads.net)
+    && holds_if_asked tests.dst (has_target heads.net)
+    && holds_if_asked tests.protocol (is_part (protocol_of heads.net))
+    && holds_if_asked tests.src_ports (has_source_port heads.ports)
+    && holds_if_asked tests.dst_ports (has_target_port heads.ports)

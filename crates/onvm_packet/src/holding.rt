@@ -1,6 +1,6 @@
 //! Which frames the tests of a rule hold for.
 ghost use Rattle.std.specs.Prelude.{◌≡◌, ◌==◌};
-ghost use Rattle.onvm_packet.specs.Holding.{asked, do_hold, has_source, has_source_port, has_target, has_target_port, is_from, is_part, protocol_of, same_front};
+ghost use Rattle.onvm_packet.specs.Holding.{holds_if_asked, do_hold, has_source, has_source_port, has_target, has_target_port, is_from, is_part, protocol_of, same_front};
 
 use crate::heads::{Heads, Net};
 use onvm_base::{PortId, Prefix, Tests};
@@ -21,7 +21,7 @@ pub fn holds(tests: &Tests, port: PortId, heads: &Heads) -> bool
 }
 
 fn is_port(wanted: Option<u8>, port: PortId) -> bool
-    ensures { result ≡ asked wanted (λ wanted. port.0 == wanted) }
+    ensures { result ≡ holds_if_asked wanted (λ wanted. port.0 == wanted) }
 {
     match wanted {
         Some(wanted) => port.0 == wanted,
@@ -30,7 +30,7 @@ fn is_port(wanted: Option<u8>, port: PortId) -> bool
 }
 
 fn is_word(wanted: Option<u16>, part: Option<u16>) -> bool
-    ensures { result ≡ asked wanted (is_part part) }
+    ensures { result ≡ holds_if_asked wanted (is_part part) }
 {
     match (wanted, part) {
         (Some(wanted), Some(part)) => part == wanted,
@@ -40,7 +40,7 @@ fn is_word(wanted: Option<u16>, part: Option<u16>) -> bool
 }
 
 fn is_protocol(wanted: Option<u8>, net: &Net) -> bool
-    ensures { result ≡ asked wanted (is_part (protocol_of net.now)) }
+    ensures { result ≡ holds_if_asked wanted (is_part (protocol_of net.now)) }
 {
     match (wanted, *net) {
         (None, _) => true,
@@ -51,7 +51,7 @@ fn is_protocol(wanted: Option<u8>, net: &Net) -> bool
 }
 
 fn is_source(wanted: Option<Prefix>, net: &Net) -> bool
-    ensures { result ≡ asked wanted (has_source net.now) }
+    ensures { result ≡ holds_if_asked wanted (has_source net.now) }
 {
     match wanted {
         Some(wanted) => has_source(net, wanted),
@@ -60,7 +60,7 @@ fn is_source(wanted: Option<Prefix>, net: &Net) -> bool
 }
 
 fn is_target(wanted: Option<Prefix>, net: &Net) -> bool
-    ensures { result ≡ asked wanted (has_target net.now) }
+    ensures { result ≡ holds_if_asked wanted (has_target net.now) }
 {
     match wanted {
         Some(wanted) => has_target(net, wanted),
@@ -112,7 +112,7 @@ fn same_front_v6(length: u8, a: u128, b: u128) -> bool
 }
 
 fn is_source_port(wanted: Option<(u16, u16)>, ports: Option<(u16, u16)>) -> bool
-    ensures { result ≡ asked wanted (has_source_port ports) }
+    ensures { result ≡ holds_if_asked wanted (has_source_port ports) }
 {
     match (wanted, ports) {
         (Some(range), Some((source, _))) => is_from(range, source),
@@ -122,7 +122,7 @@ fn is_source_port(wanted: Option<(u16, u16)>, ports: Option<(u16, u16)>) -> bool
 }
 
 fn is_target_port(wanted: Option<(u16, u16)>, ports: Option<(u16, u16)>) -> bool
-    ensures { result ≡ asked wanted (has_target_port ports) }
+    ensures { result ≡ holds_if_asked wanted (has_target_port ports) }
 {
     match (wanted, ports) {
         (Some(range), Some((_, target))) => is_from(range, target),

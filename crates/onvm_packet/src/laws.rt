@@ -1,7 +1,7 @@
 //! What the definitions of heads, checksums and edits imply, for every frame.
 ghost use Rattle.std.specs.Prelude.{◌≡◌, ◌<◌, ◌≤◌, ◌%◌, ◌^◌, ℕ, List, ◌∷◌, Some, true, length};
 ghost use Rattle.onvm_packet.specs.Bytes.{AreBytes, number};
-ghost use Rattle.onvm_packet.specs.Checksum.{AreWords, ones_sum, swapped};
+ghost use Rattle.onvm_packet.specs.Checksum.{AreWords, ones_sum, updated_checksum};
 ghost use Rattle.onvm_packet.specs.Edits.{with_ttl, heads_with_ttl, with_macs, with_tag, without_tag};
 ghost use Rattle.onvm_packet.specs.Heads.{heads_of, is_tagged, net_of, type_of, vlan_of};
 ghost use Rattle.onvm_packet.specs.Within.{HasRightChecksum, IsWithin};
@@ -35,8 +35,8 @@ pub fn new_addresses_change_no_head()
 pub fn a_swapped_word_keeps_the_sum()
     ensures { (others : List ℕ) (sum old new : ℕ) → AreWords (sum ∷ old ∷ others) → new < 2 ^ 16
         → ones_sum (sum ∷ old ∷ others) ≡ 0xffff
-        → 0 < ones_sum (swapped sum old new ∷ new ∷ others)
-        → ones_sum (swapped sum old new ∷ new ∷ others) ≡ 0xffff }
+        → 0 < ones_sum (updated_checksum sum old new ∷ new ∷ others)
+        → ones_sum (updated_checksum sum old new ∷ new ∷ others) ≡ 0xffff }
 {}
 
 /// A tag that is pushed is the outer tag, and the type that stood there is behind it. Taking it

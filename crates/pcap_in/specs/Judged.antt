@@ -3,22 +3,22 @@ use Rattle.std.specs.Prelude.{◌≡◌, ◌⊎◌, ℕ, ◌+◌, ◌<◌, ◌�
 use Rattle.pcap_in.specs.Classic.{IsHeader, IsRecord}
 use Rattle.pcap_in.specs.Faulty.{BreaksHeader, BreaksRecord, EndsInRecord, IsTornRecord}
 use Rattle.pcap_in.specs.Reading.{Reading}
-use Rattle.pcap_in.specs.declared.judge.Header.{Header}
-use Rattle.pcap_in.specs.declared.judge.Header.TheVariants as header
-use Rattle.pcap_in.specs.declared.judge.Record.{Record}
-use Rattle.pcap_in.specs.declared.judge.Record.TheVariants as item
+use Rattle.pcap_in.specs.declared.judge.CaptureHeader.{CaptureHeader}
+use Rattle.pcap_in.specs.declared.judge.CaptureHeader.TheVariants as header
+use Rattle.pcap_in.specs.declared.judge.CaptureRecord.{CaptureRecord}
+use Rattle.pcap_in.specs.declared.judge.CaptureRecord.TheVariants as item
 use Rattle.pcap_in.specs.declared.pull.Pull.{Pull}
 use Rattle.pcap_in.specs.declared.pull.Pull.TheVariants as pull
 use Rattle.pcap_in.specs.declared.spelling.Spelling.{Spelling}
 
 -- the header that these bytes begin with, as far as they go
-abbrev pub IsJudgedHeader : List ℕ → Header → Type 0
+abbrev pub IsJudgedHeader : List ℕ → CaptureHeader → Type 0
 IsJudgedHeader rest header.Part = length rest < 24
 IsJudgedHeader rest (header.Broken fault) = (24 ≤ length rest) × BreaksHeader rest fault
 IsJudgedHeader rest (header.Whole spelling) = (24 ≤ length rest) × IsHeader spelling (take 24 rest)
 
 -- the record that the bytes at an offset begin with, as far as they go
-abbrev pub IsJudgedRecord : Spelling → ℕ → List ℕ → Record → Type 0
+abbrev pub IsJudgedRecord : Spelling → ℕ → List ℕ → CaptureRecord → Type 0
 IsJudgedRecord spelling at rest item.Part = EndsInRecord spelling rest
 IsJudgedRecord spelling at rest (item.Broken fault) = (16 ≤ length rest) × BreaksRecord spelling at rest fault
 IsJudgedRecord spelling at rest (item.Whole stamp len) =

@@ -18,8 +18,8 @@ pub record Reading : Type 0 where
   pub finished : Bool
 
 -- nothing was fed
-abbrev pub unfed : Reading
-unfed = record { spelling = None; place = 0; rest = []; finished = false }
+abbrev pub unfed_reading : Reading
+unfed_reading = record { spelling = None; place = 0; rest = []; finished = false }
 
 -- what stands at the reader's place behind an accepted header: a record of its spelling or nothing, from this offset on
 abbrev pub AtRecord : Reading → (Spelling → ℕ → List ℕ → Type 0) → Type 0

@@ -29,7 +29,7 @@ pub struct Spelling {
 
 /// The numbers of a record's head.
 #[derive(Clone, Copy, Debug, PartialEq, Eq)]
-pub struct Head {
+pub struct RecordHead {
     pub seconds: u32,
     pub fraction: u32,
     pub included: u32,
@@ -112,7 +112,7 @@ pub fn u32_at(endian: Endian, bytes: &[u8], at: usize) -> u32
 }
 
 /// The head that the bytes begin with. The byte order is looked at once.
-pub fn head_at(endian: Endian, bytes: &[u8]) -> Head
+pub fn head_at(endian: Endian, bytes: &[u8]) -> RecordHead
     requires { 16 ≤ length bytes.now }
     ensures { result ≡ head_of endian bytes.now }
 {
@@ -122,14 +122,14 @@ pub fn head_at(endian: Endian, bytes: &[u8]) -> Head
     }
 }
 
-fn read_head<E: ByteOrder>(bytes: &[u8]) -> Head
+fn read_head<E: ByteOrder>(bytes: &[u8]) -> RecordHead
     requires { 16 ≤ length bytes.now }
     ensures seconds { result.seconds ≡ E.number_of 4 bytes.now }
     ensures fraction { result.fraction ≡ E.number_of 4 (drop 4 bytes.now) }
     ensures included { result.included ≡ E.number_of 4 (drop 8 bytes.now) }
     ensures original { result.original ≡ E.number_of 4 (drop 12 bytes.now) }
 {
-    Head {
+    RecordHead {
         seconds: E::read_u32(bytes),
         fraction: E::read_u32(&bytes[4..]),
         included: E::read_u32(&bytes[8..]),
