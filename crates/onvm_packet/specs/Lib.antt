@@ -2,6 +2,7 @@ pub mod Bytes
 pub mod Checksum
 pub mod Edits
 pub mod Flow
+pub mod FlowKeys
 pub mod HeadPlaces
 pub mod Heads
 pub mod Holding
