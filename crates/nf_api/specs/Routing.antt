@@ -5,6 +5,7 @@ use Rattle.onvm_base.specs.declared.rules.Prefix.TheVariants as prefix
 use Rattle.onvm_base.specs.declared.chain.ChainStep.{ChainStep}
 use Rattle.onvm_base.specs.declared.chain.ChainStep.TheVariants as step
 use Rattle.onvm_base.specs.declared.function.RouteEntry.{RouteEntry}
+use Rattle.onvm_base.specs.declared.limits.TheConstants.{IPV4_BITS, IPV6_BITS}
 use Rattle.onvm_base.specs.declared.outcome.Verdict.{Verdict}
 use Rattle.onvm_base.specs.declared.outcome.Verdict.TheVariants.{Drop, ToService, Out}
 use Rattle.onvm_packet.specs.Holding.{covers_ipv4}
@@ -13,8 +14,8 @@ use Rattle.onvm_packet.specs.declared.heads.Net.TheVariants as net
 
 -- how many first bits of an address a prefix fixes: at most all of them
 abbrev pub length_of : Prefix → ℕ
-length_of (prefix.V4 address length) = min length 32
-length_of (prefix.V6 address length) = min length 128
+length_of (prefix.V4 address length) = min length IPV4_BITS
+length_of (prefix.V6 address length) = min length IPV6_BITS
 
 -- the verdict that sends a frame to a target
 abbrev pub verdict_towards : ChainStep → Verdict

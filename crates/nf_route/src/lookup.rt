@@ -5,7 +5,7 @@ ghost use Rattle.nf_api.specs.Routing.{IsFound, NoneMatches, Wins, length_of, ve
 ghost use Rattle.onvm_packet.specs.Holding.{covers_ipv4};
 
 use crate::span::Span;
-use onvm_base::{ChainStep, Prefix, RouteEntry, Verdict};
+use onvm_base::{ChainStep, IPV4_BITS, IPV6_BITS, Prefix, RouteEntry, Verdict};
 
 /// The verdict for an address (RFC 1812, 5.2.4.3).
 pub fn find(entries: &[RouteEntry], target: u32) -> Verdict
@@ -55,8 +55,8 @@ fn length_of(prefix: Prefix) -> u8
     ensures { result ≡ length_of prefix }
 {
     match prefix {
-        Prefix::V4 { length, .. } => length.min(32),
-        Prefix::V6 { length, .. } => length.min(128),
+        Prefix::V4 { length, .. } => length.min(IPV4_BITS),
+        Prefix::V6 { length, .. } => length.min(IPV6_BITS),
     }
 }
 

@@ -8,7 +8,8 @@ use onvm_packet::{ETHERNET_LEN, TAG_LEN, is_tagged, pop_tag, push_tag};
 /// Puts a tag before the type. A frame without a type goes on as it is, and one that would be
 /// too long is dropped.
 pub fn tag(packet: &mut Packet, vlan: u16, priority: u8) -> Result<Verdict, NoMemory>
-    ensures answer { IfOk result (λ verdict. GivesAndLeaves (tag_answer (tci_of vlan priority) packet.old) verdict packet.new) }
+    ensures answer { IfOk result (λ verdict.
+        GivesAndLeaves (tag_answer (tci_of vlan priority) packet.old) verdict packet.new) }
     ensures unchanged { OnErr result (packet.new ≡ packet.old) }
     ensures grows { OnErr result (IsTrue (has_type packet.old && has_room packet.old)) }
 {

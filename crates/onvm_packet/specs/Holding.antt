@@ -1,6 +1,7 @@
 -- Which frames the tests of a rule hold for.
 use Rattle.std.specs.Prelude.{ℕ, ◌-◌, ◌/◌, ◌^◌, ◌==◌, nat_le, Bool, true, false, ◌&&◌, Option, Some, None}
 use Rattle.onvm_base.specs.declared.ids.PortId.{PortId}
+use Rattle.onvm_base.specs.declared.limits.TheConstants.{IPV4_BITS, IPV6_BITS}
 use Rattle.onvm_base.specs.declared.rules.Prefix.{Prefix}
 use Rattle.onvm_base.specs.declared.rules.Prefix.TheVariants as prefix
 use Rattle.onvm_base.specs.declared.rules.Tests.{Tests}
@@ -24,12 +25,12 @@ same_front bits length a b = (a / 2 ^ (bits - length)) == (b / 2 ^ (bits - lengt
 
 -- an address is in a prefix. A prefix of one version has no address of the other
 abbrev pub covers_ipv4 : Prefix → ℕ → Bool
-covers_ipv4 (prefix.V4 front length) address = same_front 32 length address front
+covers_ipv4 (prefix.V4 front length) address = same_front IPV4_BITS length address front
 covers_ipv4 (prefix.V6 front length) address = false
 
 abbrev pub covers_ipv6 : Prefix → ℕ → Bool
 covers_ipv6 (prefix.V4 front length) address = false
-covers_ipv6 (prefix.V6 front length) address = same_front 128 length address front
+covers_ipv6 (prefix.V6 front length) address = same_front IPV6_BITS length address front
 
 abbrev pub has_source : Net → Prefix → Bool
 has_source (net.V4 at source target protocol ttl) wanted = covers_ipv4 wanted source

@@ -5,6 +5,7 @@ ghost use Rattle.onvm_packet.specs.Heads.{heads_of, is_tagged, type_at, net_of, 
 ghost use Rattle.onvm_packet.specs.HeadPlaces.{IsHeadPlace, IsHeadPlaceAt};
 
 use crate::words::{u8_at, u16_at, u32_at, u128_at};
+use onvm_base::MAX_VLAN;
 
 /// The bytes of an Ethernet II head: two addresses and the type.
 pub const ETHERNET_LEN: usize = 14;
@@ -90,7 +91,7 @@ pub fn parse(bytes: &[u8]) -> Heads
         };
     }
     if is_tagged(bytes) {
-        let vlan = u16_at(bytes, TAG_AT) % 4096;
+        let vlan = u16_at(bytes, TAG_AT) % (MAX_VLAN + 1);
         read_heads(Some(vlan), TAGGED_TYPE_AT, bytes)
     } else {
         read_heads(None, TYPE_AT, bytes)

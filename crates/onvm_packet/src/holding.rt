@@ -1,9 +1,10 @@
 //! Which frames the tests of a rule hold for.
 ghost use Rattle.std.specs.Prelude.{◌≡◌, ◌==◌};
+ghost use Rattle.onvm_base.specs.declared.limits.TheConstants.{IPV4_BITS, IPV6_BITS};
 ghost use Rattle.onvm_packet.specs.Holding.{holds_if_asked, do_hold, has_source, has_source_port, has_target, has_target_port, is_from, is_part, protocol_of, same_front};
 
 use crate::heads::{Heads, Net};
-use onvm_base::{PortId, Prefix, Tests};
+use onvm_base::{IPV4_BITS, IPV6_BITS, PortId, Prefix, Tests};
 
 /// Whether each test that is there holds for a frame with these heads that a port received. A test
 /// of a part that the frame hasn't got fails.
@@ -98,17 +99,17 @@ fn has_target(net: &Net, wanted: Prefix) -> bool
 
 // Whether two addresses have the same first bits.
 fn same_front_v4(length: u8, a: u32, b: u32) -> bool
-    ensures { result ≡ same_front 32 length a b }
+    ensures { result ≡ same_front IPV4_BITS length a b }
 {
-    let free = 32u8.saturating_sub(length);
+    let free = IPV4_BITS.saturating_sub(length);
     u64::from(a) >> free == u64::from(b) >> free
 }
 
 fn same_front_v6(length: u8, a: u128, b: u128) -> bool
-    ensures { result ≡ same_front 128 length a b }
+    ensures { result ≡ same_front IPV6_BITS length a b }
 {
-    let free = 128u8.saturating_sub(length);
-    free == 128 || a >> free == b >> free
+    let free = IPV6_BITS.saturating_sub(length);
+    free == IPV6_BITS || a >> free == b >> free
 }
 
 fn is_source_port(wanted: Option<(u16, u16)>, ports: Option<(u16, u16)>) -> bool

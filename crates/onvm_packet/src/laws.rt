@@ -1,6 +1,7 @@
 //! What the definitions of heads, checksums and edits imply, for every frame.
-ghost use Rattle.std.specs.Prelude.{◌≡◌, ◌<◌, ◌≤◌, ◌%◌, ◌^◌, ℕ, List, ◌∷◌, Some, true, length};
+ghost use Rattle.std.specs.Prelude.{◌≡◌, ◌+◌, ◌<◌, ◌≤◌, ◌%◌, ◌^◌, ℕ, List, ◌∷◌, Some, true, length};
 ghost use Rattle.onvm_base.specs.declared.ids.PortId.{PortId};
+ghost use Rattle.onvm_base.specs.declared.limits.TheConstants.{MAX_VLAN};
 ghost use Rattle.onvm_base.specs.declared.rules.Tests.{Tests};
 ghost use Rattle.onvm_packet.specs.Bytes.{AreBytes, number};
 ghost use Rattle.onvm_packet.specs.Checksum.{AreWords, ones_sum, updated_checksum};
@@ -53,7 +54,7 @@ pub fn a_pushed_tag_is_read_and_taken_out()
     ensures tagged { (bytes : List ℕ) (tci : ℕ) → 14 ≤ length bytes
         → is_tagged (with_tag tci bytes) ≡ true }
     ensures vlan { (bytes : List ℕ) (tci : ℕ) → 14 ≤ length bytes → tci < 2 ^ 16
-        → vlan_of (with_tag tci bytes) ≡ Some (tci % 4096) }
+        → vlan_of (with_tag tci bytes) ≡ Some (tci % (MAX_VLAN + 1)) }
     ensures ethertype { (bytes : List ℕ) (tci : ℕ) → 14 ≤ length bytes
         → type_of (with_tag tci bytes) ≡ Some (number 2 12 bytes) }
     ensures back { (bytes : List ℕ) (tci : ℕ) → 14 ≤ length bytes

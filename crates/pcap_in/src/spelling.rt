@@ -1,6 +1,7 @@
 //! The four spellings of a capture, and the numbers in it.
 ghost use Rattle.std.specs.Prelude.{◌≡◌, ◌≢◌, ◌+◌, ◌^◌, ◌<◌, ◌≤◌, None, IfSome, length, drop};
 ghost use Rattle.pcap_in.specs.Spelling.{head_of, in_nanos, magic_of, number, per_second};
+ghost use Rattle.pcap_in.specs.declared.judge.TheConstants.{HEAD_LEN};
 ghost use Rattle.pcap_in.specs.declared.spelling.Endian.{Endian};
 ghost use Rattle.pcap_in.specs.declared.spelling.Unit.{Unit};
 
@@ -113,7 +114,7 @@ pub fn u32_at(endian: Endian, bytes: &[u8], at: usize) -> u32
 
 /// The head that the bytes begin with. The byte order is looked at once.
 pub fn head_at(endian: Endian, bytes: &[u8]) -> RecordHead
-    requires { 16 ≤ length bytes.now }
+    requires { HEAD_LEN ≤ length bytes.now }
     ensures { result ≡ head_of endian bytes.now }
 {
     match endian {
@@ -123,7 +124,7 @@ pub fn head_at(endian: Endian, bytes: &[u8]) -> RecordHead
 }
 
 fn read_head<E: ByteOrder>(bytes: &[u8]) -> RecordHead
-    requires { 16 ≤ length bytes.now }
+    requires { HEAD_LEN ≤ length bytes.now }
     ensures seconds { result.seconds ≡ E.number_of 4 bytes.now }
     ensures fraction { result.fraction ≡ E.number_of 4 (drop 4 bytes.now) }
     ensures included { result.included ≡ E.number_of 4 (drop 8 bytes.now) }
