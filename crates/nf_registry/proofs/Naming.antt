@@ -1,5 +1,5 @@
 -- The functions whose services the steps name are the chain's.
-use Rattle.std.proofs.Common.{◌≡◌, ◌≢◌, ℕ, zero, suc, ◌+◌, ◌*◌, ◌^◌, ◌<◌, ◌≤◌, Bool, true, false, nat_eq, ◌||◌, if◌then◌else◌, List, [], ◌∷◌, length, slice_get, Option, Some, None, option_and_then, IsBitSet, bit_and, refl, sym, ap, ◌∙◌, subst, arith}
+use Rattle.std.proofs.Common.{◌≡◌, ℕ, zero, suc, ◌+◌, ◌*◌, ◌^◌, ◌≤◌, Bool, true, false, nat_eq, ◌||◌, if◌then◌else◌, List, [], ◌∷◌, length, slice_get, Option, Some, None, option_and_then, IsBitSet, bit_and, refl, sym, ap, ◌∙◌, arith}
 use Rattle.std.specs.Int.{bit_at}
 use Rattle.std.proofs.lemmas.Option.{slice_get_past, slice_get_within}
 use Rattle.std.proofs.lemmas.Nat.Bits.{and_pow, bit_at-zero}
@@ -11,7 +11,7 @@ use Rattle.onvm_base.specs.declared.chain.ChainStep.TheVariants.{To as Service, 
 use Rattle.onvm_base.specs.declared.function.FunctionPlan.{FunctionPlan}
 use Rattle.onvm_base.specs.declared.plan.Plan.{Plan}
 use Rattle.onvm_base.specs.Moves.{IsOfChain, step_at}
-use Rattle.onvm_base.specs.Services.{instances, instances_from}
+use Rattle.onvm_base.specs.Services.{instances_from}
 use Rattle.nf_registry.specs.Masks.{AreMasks, IsMask, HasBits, names, names_of}
 
 -- ---- steps

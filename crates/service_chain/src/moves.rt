@@ -37,14 +37,7 @@ pub fn step(
 }
 
 // To the step behind the cursor. No chain is so long that its cursor could not be counted.
-fn after(
-    plan: &Plan,
-    registry: &Registry,
-    chain: ChainId,
-    cursor: u8,
-    hops: u8,
-    hash: u32,
-) -> Move
+fn after(plan: &Plan, registry: &Registry, chain: ChainId, cursor: u8, hops: u8, hash: u32) -> Move
     requires { registry.now ≡ plan.now }
     ensures { result ≡ spec.to_step plan.now (spec.step_at plan.now chain (cursor + 1)) (cursor + 1) hops hash }
 {

@@ -1,8 +1,7 @@
-use Rattle.std.proofs.Common.{◌≡◌, ◌<◌, Some, length, slice_get, rules, refl, arith}
+use Rattle.std.proofs.Common.{◌<◌, length, rules, refl, arith}
 use Rattle.std.proofs.lemmas.Option.{slice_get_within}
 use Rattle.onvm_base.specs.Services.{instances}
 use Rattle.nf_registry.proofs.Appending.{item_is}
-use Rattle.nf_registry.specs.Places.{picked}
 use Rattle.nf_registry.proofs.registry.Registry.instance.Goals as goal
 
 pub index-requires : goal.index-requires
