@@ -1,0 +1,4 @@
+//! Files that are read, and files that are refused.
+
+mod accepted;
+mod refused;
