@@ -1,5 +1,7 @@
 //! What a chain file is refused for, and where.
 
+use std::fmt;
+
 /// What is wrong at a place of the file's tree. At one place the first in this order is told.
 #[derive(Clone, Copy, Debug, PartialEq, Eq)]
 pub enum Cause {
@@ -73,6 +75,36 @@ impl FileFault {
             Cause::Limit => FileFault::Limit { place },
             Cause::Twice => FileFault::Twice { place },
             Cause::Marks => FileFault::Marks { place },
+        }
+    }
+}
+
+/// `file`, `top`, `function N`, `chain N`, `step N M`, `rule N` or `default`.
+impl fmt::Display for Place {
+    fn fmt<W: fmt::Write>(&self, f: &mut fmt::Formatter<W>) -> fmt::Result {
+        match self.part {
+            Part::File => write!(f, "file"),
+            Part::Top => write!(f, "top"),
+            Part::Function => write!(f, "function {}", self.item),
+            Part::Chain => write!(f, "chain {}", self.item),
+            Part::Step => write!(f, "step {} {}", self.item, self.inner),
+            Part::Rule => write!(f, "rule {}", self.item),
+            Part::Default => write!(f, "default"),
+        }
+    }
+}
+
+/// The cause and the place, as `twice function 1`, or `memory`.
+impl fmt::Display for FileFault {
+    fn fmt<W: fmt::Write>(&self, f: &mut fmt::Formatter<W>) -> fmt::Result {
+        match self {
+            FileFault::Json => write!(f, "json file"),
+            FileFault::Shape { place } => write!(f, "shape {place}"),
+            FileFault::Unknown { place } => write!(f, "unknown {place}"),
+            FileFault::Limit { place } => write!(f, "limit {place}"),
+            FileFault::Twice { place } => write!(f, "twice {place}"),
+            FileFault::Marks { place } => write!(f, "marks {place}"),
+            FileFault::Memory => write!(f, "memory"),
         }
     }
 }

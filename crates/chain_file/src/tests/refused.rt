@@ -49,14 +49,14 @@ fn faults_of_the_top_object(rt: HostRuntime) -> Result<(), Fail> {
     let alloc = rt.alloc();
     let place = at(Part::Top, 0, 0);
     let rows = [
-        (r#","transmit":1.0"#, FileFault::Shape { place }),
-        (r#","transmit":-1"#, FileFault::Limit { place }),
+        (r#","transmit":true"#, FileFault::Shape { place }),
+        (r#","ports":-1"#, FileFault::Limit { place }),
         (r#","transmit":5"#, FileFault::Limit { place }),
         (r#","colour":1"#, FileFault::Unknown { place }),
         (r#","version":3,"ecn":1"#, FileFault::Unknown { place }),
         (r#","low":4,"high":4"#, FileFault::Marks { place }),
         (r#","ports":1.0"#, FileFault::Shape { place }),
-        (r#","ports":0"#, FileFault::Limit { place }),
+        (r#","ports":5"#, FileFault::Limit { place }),
     ];
     for (top, told) in rows {
         let text = file(alloc, top, "}", STEPS, END)?;
