@@ -86,11 +86,10 @@ entry_right d = short_prefix_at_right (codes "prefix") d
 
 route_right : (d : Data) → (route_in d).cause ≡ None → Rules (route_in d).value
 route_right d e =
-    let l = list_of_right entry_in 1 MAX_ROUTES (codes "table") d e in
-    (
+    let l = list_of_right entry_in 1 MAX_ROUTES (codes "table") d e in (
       l.length_of,
       subst (All (λ entry. IsShortPrefix entry.prefix)) (sym l.value)
-      (all_each (λ entry. IsShortPrefix entry.prefix) entry_in (λ one none. entry_right one) (under (codes "table") d) l.right),
+          (all_each (λ entry. IsShortPrefix entry.prefix) entry_in (λ one none. entry_right one) (under (codes "table") d) l.right),
     )
 
 must_range : (o : Option Data) → (must (range_in 1 65535) (1, 65535) o).cause ≡ None

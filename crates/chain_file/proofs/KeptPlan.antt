@@ -89,7 +89,7 @@ top_some captures d e =
 pub plan_is_kept : (captures : ℕ) (guests : List (List ℕ)) (d : Data) → TopIsRight captures d → FunctionsAreRight captures guests d
     → ChainsAreRight captures guests d → RulesAreRight captures guests d → (default_of captures guests d).cause ≡ None
     → IsPlan (plan_sizes (sizes_of captures d)) (function_list captures guests d) (chain_list captures guests d)
-        (rule_list captures guests d) (default_of captures guests d).value
+    (rule_list captures guests d) (default_of captures guests d).value
 plan_is_kept captures guests d top functions chains rules default =
     let sizes = are_sizes captures d top in
     let some = top_some captures d top in

@@ -20,6 +20,7 @@ use std::alloc::Global;
 
 // What stands for a key that is not there.
 const PRIORITY: u64 = 1;
+
 const COST: u64 = 100;
 
 /// The functions of a file with so many cores, or the first fault of one.

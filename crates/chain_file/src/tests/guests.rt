@@ -26,8 +26,11 @@ impl NetFunction for Idle {
     }
 }
 
-const ONE: &[u8] = br#"{"version":1,"ports":1,"functions":[{"name":"f","service":1,"core":0,"kind":"guest","guest":"idle"}],"chains":[{"name":"a","steps":[{"to":1}]}],"default":"a"}"#;
-const TWO: &[u8] = br#"{"version":1,"ports":1,"functions":[{"name":"f","service":1,"core":0,"kind":"guest","guest":"idle"},{"name":"g","service":2,"core":0,"kind":"guest","guest":"idle"}],"chains":[{"name":"a","steps":[{"to":1}]}],"default":"a"}"#;
+const ONE: &[u8] =
+    br#"{"version":1,"ports":1,"functions":[{"name":"f","service":1,"core":0,"kind":"guest","guest":"idle"}],"chains":[{"name":"a","steps":[{"to":1}]}],"default":"a"}"#;
+
+const TWO: &[u8] =
+    br#"{"version":1,"ports":1,"functions":[{"name":"f","service":1,"core":0,"kind":"guest","guest":"idle"},{"name":"g","service":2,"core":0,"kind":"guest","guest":"idle"}],"chains":[{"name":"a","steps":[{"to":1}]}],"default":"a"}"#;
 
 #[test]
 fn a_guest_is_found_by_its_name_and_once(rt: HostRuntime) -> Result<(), Fail> {
@@ -47,6 +50,9 @@ fn a_guest_is_found_by_its_name_and_once(rt: HostRuntime) -> Result<(), Fail> {
         item: 1,
         inner: 0,
     };
-    assert_eq!(rt; read(alloc, TWO, 1, guests.as_slice()).err(), Some(FileFault::Twice { place }));
+    assert_eq!(rt;
+        read(alloc, TWO, 1, guests.as_slice()).err(),
+        Some(FileFault::Twice { place })
+    );
     Ok(())
 }

@@ -24,6 +24,7 @@ fn file(
 }
 
 const STEPS: &str = r#"{"to":1},{"out":0}"#;
+
 const END: &str = r#"],"default":"a"}"#;
 
 fn at(part: Part, item: u16, inner: u16) -> Place {
@@ -40,7 +41,10 @@ fn what_is_no_json_and_what_is_too_large(rt: HostRuntime) -> Result<(), Fail> {
     assert_eq!(rt; fault(alloc, nested.as_bytes()), Some(FileFault::Json));
     let spaces = " ".repeat(alloc, 1_048_577)?;
     let place = at(Part::File, 0, 0);
-    assert_eq!(rt; fault(alloc, spaces.as_bytes()), Some(FileFault::Limit { place }));
+    assert_eq!(rt;
+        fault(alloc, spaces.as_bytes()),
+        Some(FileFault::Limit { place })
+    );
     Ok(())
 }
 
@@ -63,7 +67,10 @@ fn faults_of_the_top_object(rt: HostRuntime) -> Result<(), Fail> {
         assert_eq!(rt; fault(alloc, text.as_bytes()), Some(told));
     }
     let text = file(alloc, "", "}", STEPS, END)?;
-    assert_eq!(rt; read(alloc, text.as_bytes(), 2, &[]).err(), Some(FileFault::Limit { place }));
+    assert_eq!(rt;
+        read(alloc, text.as_bytes(), 2, &[]).err(),
+        Some(FileFault::Limit { place })
+    );
     Ok(())
 }
 
@@ -74,7 +81,10 @@ fn faults_of_functions(rt: HostRuntime) -> Result<(), Fail> {
     let second = at(Part::Function, 1, 0);
     let rows = [
         (r#","colour":1}"#, FileFault::Unknown { place: first }),
-        (r#","kind":"guest","guest":"g"}"#, FileFault::Unknown { place: first }),
+        (
+            r#","kind":"guest","guest":"g"}"#,
+            FileFault::Unknown { place: first },
+        ),
         (r#","core":1}"#, FileFault::Limit { place: first }),
         (r#","name":"F"}"#, FileFault::Shape { place: first }),
         (r#"},7"#, FileFault::Shape { place: second }),
@@ -99,9 +109,21 @@ fn faults_of_chains_and_steps(rt: HostRuntime) -> Result<(), Fail> {
         (r#"{"to":2}"#, END, FileFault::Unknown { place: step }),
         (r#"{"to":1,"out":0}"#, END, FileFault::Shape { place: step }),
         (r#"{"out":1}"#, END, FileFault::Limit { place: step }),
-        (STEPS, r#",{"name":"a","steps":[{"to":1}]}],"default":"a"}"#, FileFault::Twice { place: chain }),
-        (STEPS, r#",{"name":"b","steps":[]}],"default":"a"}"#, FileFault::Limit { place: chain }),
-        (STEPS, r#",{"name":"b","step":[]}],"default":"a"}"#, FileFault::Shape { place: chain }),
+        (
+            STEPS,
+            r#",{"name":"a","steps":[{"to":1}]}],"default":"a"}"#,
+            FileFault::Twice { place: chain },
+        ),
+        (
+            STEPS,
+            r#",{"name":"b","steps":[]}],"default":"a"}"#,
+            FileFault::Limit { place: chain },
+        ),
+        (
+            STEPS,
+            r#",{"name":"b","step":[]}],"default":"a"}"#,
+            FileFault::Shape { place: chain },
+        ),
         (
             STEPS,
             r#",{"name":"b","steps":[{"to":1}],"to":1}],"default":"a"}"#,
@@ -122,12 +144,36 @@ fn faults_of_rules_and_of_the_default(rt: HostRuntime) -> Result<(), Fail> {
     let default = at(Part::Default, 0, 0);
     let top = at(Part::Top, 0, 0);
     let rows = [
-        (r#"{"chain":"b","match":{}}"#, "a", FileFault::Unknown { place: rule }),
-        (r#"{"chain":"B","match":{}}"#, "a", FileFault::Shape { place: rule }),
-        (r#"{"chain":"a","match":{"port":4}}"#, "a", FileFault::Limit { place: rule }),
-        (r#"{"chain":"a","match":{"src_ports":[2,1]}}"#, "a", FileFault::Shape { place: rule }),
-        (r#"{"chain":"a","match":{"port":3}}"#, "b", FileFault::Unknown { place: default }),
-        (r#"{"chain":"b","match":{}}"#, "B", FileFault::Shape { place: top }),
+        (
+            r#"{"chain":"b","match":{}}"#,
+            "a",
+            FileFault::Unknown { place: rule },
+        ),
+        (
+            r#"{"chain":"B","match":{}}"#,
+            "a",
+            FileFault::Shape { place: rule },
+        ),
+        (
+            r#"{"chain":"a","match":{"port":4}}"#,
+            "a",
+            FileFault::Limit { place: rule },
+        ),
+        (
+            r#"{"chain":"a","match":{"src_ports":[2,1]}}"#,
+            "a",
+            FileFault::Shape { place: rule },
+        ),
+        (
+            r#"{"chain":"a","match":{"port":3}}"#,
+            "b",
+            FileFault::Unknown { place: default },
+        ),
+        (
+            r#"{"chain":"b","match":{}}"#,
+            "B",
+            FileFault::Shape { place: top },
+        ),
     ];
     for (second, name, told) in rows {
         let behind = format!(in alloc;
