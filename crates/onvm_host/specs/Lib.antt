@@ -4,4 +4,5 @@ pub mod Given
 pub mod Memory
 pub mod Names
 pub mod Story
+pub mod Tally
 pub mod Written
