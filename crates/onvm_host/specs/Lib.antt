@@ -5,4 +5,5 @@ pub mod Memory
 pub mod Names
 pub mod Story
 pub mod Tally
+pub mod Target
 pub mod Written
