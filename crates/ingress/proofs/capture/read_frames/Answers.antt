@@ -3,23 +3,22 @@ use Rattle.std.proofs.lemmas.List.{length-append}
 use Rattle.onvm_base.specs.declared.frame.Frame.{Frame}
 use Rattle.pcap_in.specs.Classic.{IsCapture}
 use Rattle.pcap_in.proofs.HasRead.{HasRead-fed, HasRead-length}
-use Rattle.onvm_top.proofs.Captured.{HasRead-bound}
+use Rattle.ingress.proofs.Captured.{HasRead-bound, inside-WantsMore, short-WantsMore}
+use Rattle.ingress.proofs.Sound.{sound-WantsMore, WantsMore-unfed}
 use Rattle.std.proofs.lemmas.Result.{err_from_is_err_and}
 use Rattle.pcap_in.specs.Faulty.{IsCaptureUpTo}
-use Rattle.onvm_top.specs.Limits.{capture_limit, IsWithinLimits, PassesLimit}
-use Rattle.onvm_top.specs.Moved.{MovedSince}
-use Rattle.onvm_top.specs.declared.input.CaptureFault.TheVariants as fault
-use Rattle.onvm_top.proofs.Known.{Consumes-append, Consumes-rest, Consumes-to_end, IsAtEnd-left}
-use Rattle.onvm_top.proofs.Fed.{length-fed}
-use Rattle.onvm_top.proofs.Moved.{MovedSince-next, MovedSince-start, Reads-next}
-use Rattle.onvm_top.proofs.input.read_frames.Goals as goal
+use Rattle.ingress.specs.Limits.{capture_limit, IsWithinLimits, PassesLimit}
+use Rattle.onvm_host.specs.Moved.{MovedSince}
+use Rattle.ingress.specs.declared.capture.CaptureFault.TheVariants as fault
+use Rattle.onvm_host.proofs.Bytes.{Consumes-append, Consumes-keeps, Consumes-rest, Consumes-to_end, IsAtEnd-left}
+use Rattle.ingress.proofs.Fed.{length-fed}
+use Rattle.onvm_host.proofs.Moved.{MovedSince-next, MovedSince-start, one_more, Reads-next}
+use Rattle.ingress.proofs.capture.read_frames.Goals as goal
 
 pub pieces-init : goal.pieces-init
 pieces-init g c = record {
   within = search rules;
-  unfinished = search rules;
-  short = search rules;
-  inside = search rules;
+  wants = rw c.make-reader.ensures WantsMore-unfed;
   named = search rules;
   read = ([], search rules, search rules, MovedSince-start _);
 }
@@ -27,7 +26,7 @@ pieces-init g c = record {
 pub feed_piece-requires-clause-fits : goal.feed_piece-requires-clause-fits
 feed_piece-requires-clause-fits g c =
     let kept = c.pieces.invariant in
-    let bound = HasRead-bound kept.read.0 c.pieces.received c.pieces.reader kept.read.2 kept.within kept.short in
+    let bound = HasRead-bound kept.read.0 c.pieces.received c.pieces.reader kept.read.2 kept.within (short-WantsMore _ kept.wants) in
     omega (arith, bound)
 
 pub returns-then-branch-clause-whole : goal.returns-then-branch-clause-whole
@@ -58,7 +57,7 @@ pieces-smaller g c =
     let some = feeds.some (c.in_ok-pull_frames.ensures.finished.0 ∙ c.if-branch.false) in
     let before = HasRead-length kept.read.0 c.pieces.received c.pieces.reader kept.read.2 in
     let after = HasRead-length fed c.pull_frames.new.received c.pull_frames.new.reader then in
-    let bound = HasRead-bound kept.read.0 c.pieces.received c.pieces.reader kept.read.2 kept.within kept.short in
+    let bound = HasRead-bound kept.read.0 c.pieces.received c.pieces.reader kept.read.2 kept.within (short-WantsMore _ kept.wants) in
     omega (arith, some, before, after, bound, length-append kept.read.0 feeds.bytes)
 
 pub pieces-preserved : goal.pieces-preserved
@@ -69,15 +68,12 @@ pieces-preserved g c =
     let now =
     HasRead-fed kept.read.0 feeds.bytes c.pieces.received c.pieces.reader c.feed_piece.new.reader kept.read.2
     feeds.spelling feeds.place feeds.rest in
-    let early = c.in_ok-pull_frames.ensures.more (ap Ok c.if-branch.false) in
     let Since : ℕ → Type 0 =
     λ n. MovedSince n (g.S.Source.takes c.args.source.now) (g.S.Source.takes c.feed_piece.new.source) in
     let some = feeds.some (c.in_ok-pull_frames.ensures.finished.0 ∙ c.if-branch.false) in
     record {
       within = c.in_ok-pull_frames.ensures.within;
-      unfinished = early.unfinished;
-      short = early.short;
-      inside = early.inside;
+      wants = c.in_ok-pull_frames.ensures.more (ap Ok c.if-branch.false);
       named = search rules;
       read = (
         fed,
@@ -131,15 +127,31 @@ returns-in_err-feed_piece-clause-read g c =
     let kept = c.pieces.invariant in
     λ is.
     let failed : c.feed_piece.result ≡ Err fault.Read = cc (passed.1, passed.2, c.in_err-feed_piece.was, is) in
-    Reads-next capture_limit (length kept.read.0) None _ _ _ kept.read.3 (c.feed_piece.ensures.read failed)
-    (length-fed kept.read.0 c.pieces.received c.pieces.reader kept.read.2 kept.within kept.short kept.inside)
+    Reads-next capture_limit (length kept.read.0) None _ _ _ kept.read.3 (c.feed_piece.ensures.read failed).0
+    (length-fed kept.read.0 c.pieces.received c.pieces.reader kept.read.2 kept.within (short-WantsMore _ kept.wants) (inside-WantsMore _ kept.wants))
+
+pub returns-in_err-feed_piece-clause-sound : goal.returns-in_err-feed_piece-clause-sound
+returns-in_err-feed_piece-clause-sound g c =
+    let passed = err_from_is_err_and c.from_residual.result c.from_residual.ensures.1 in
+    let kept = c.pieces.invariant in
+    λ is.
+    let failed : c.feed_piece.result ≡ Err fault.Read = cc (passed.1, passed.2, c.in_err-feed_piece.was, is) in
+    let take = c.feed_piece.ensures.read failed in
+    record {
+      bytes = kept.read.0;
+      consumed = Consumes-keeps _ _ _ kept.read.0 kept.read.1 take.1;
+      earlier = kept.read.3.0;
+      taken = one_more _ _ _ kept.read.3.0 None kept.read.3.1 take.0;
+      moved = kept.read.3.2;
+      sound = sound-WantsMore kept.read.0 c.pieces.received c.pieces.reader kept.read.2 kept.within kept.wants;
+    }
 
 pub returns-in_err-feed_piece-clause-ended : goal.returns-in_err-feed_piece-clause-ended
 returns-in_err-feed_piece-clause-ended g c =
     let passed = err_from_is_err_and c.from_residual.result c.from_residual.ensures.1 in
     let kept = c.pieces.invariant in
     let bound =
-    length-fed kept.read.0 c.pieces.received c.pieces.reader kept.read.2 kept.within kept.short kept.inside in
+    length-fed kept.read.0 c.pieces.received c.pieces.reader kept.read.2 kept.within (short-WantsMore _ kept.wants) (inside-WantsMore _ kept.wants) in
     λ unread. elim c.in_err-feed_piece.ensures.only [
       | inl read ↦ absurd (unread (cc (passed.1, passed.2, read)))
       | inr memory ↦
@@ -154,7 +166,7 @@ returns-in_err-pull_frames-clause-ended g c = λ _.
     let feeds = c.in_ok-feed_piece.ensures.ok in (
       length feeds.bytes,
       Reads-next capture_limit (length kept.read.0) (Some (length feeds.bytes)) _ _ _ kept.read.3 feeds.taken
-          (length-fed kept.read.0 c.pieces.received c.pieces.reader kept.read.2 kept.within kept.short kept.inside),
+          (length-fed kept.read.0 c.pieces.received c.pieces.reader kept.read.2 kept.within (short-WantsMore _ kept.wants) (inside-WantsMore _ kept.wants)),
     )
 
 pub returns-then-branch-clause-ended : goal.returns-then-branch-clause-ended
@@ -163,5 +175,5 @@ returns-then-branch-clause-ended g c = λ _.
     let feeds = c.in_ok-feed_piece.ensures.ok in (
       length feeds.bytes,
       Reads-next capture_limit (length kept.read.0) (Some (length feeds.bytes)) _ _ _ kept.read.3 feeds.taken
-          (length-fed kept.read.0 c.pieces.received c.pieces.reader kept.read.2 kept.within kept.short kept.inside),
+          (length-fed kept.read.0 c.pieces.received c.pieces.reader kept.read.2 kept.within (short-WantsMore _ kept.wants) (inside-WantsMore _ kept.wants)),
     )

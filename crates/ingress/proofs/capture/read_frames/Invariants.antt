@@ -1,19 +1,17 @@
-use Rattle.std.proofs.Common.{◌≡◌, ◌<◌, ◌+◌, ◌-◌, List, ℕ, length, Some, false}
+use Rattle.std.proofs.Common.{◌≡◌, ◌+◌, ◌-◌, List, ℕ, length}
 use Rattle.std.specs.Io.KnownBytes.{Consumes}
 use Rattle.pcap_in.specs.Calls.{HasRead}
 use Rattle.pcap_in.specs.declared.judge.TheConstants.{HEADER_LEN}
-use Rattle.pcap_in.specs.declared.spelling.Spelling.{Spelling}
-use Rattle.onvm_top.specs.Limits.{capture_limit, record_limit, IsWithinLimits}
-use Rattle.onvm_top.specs.Moved.{MovedSince}
-use Rattle.onvm_top.proofs.input.read_frames.Given as goal
+use Rattle.ingress.specs.Fed.{WantsMore}
+use Rattle.ingress.specs.Limits.{capture_limit, IsWithinLimits}
+use Rattle.onvm_host.specs.Moved.{MovedSince}
+use Rattle.ingress.proofs.capture.read_frames.Given as goal
 
--- what was taken is what the frames used and the reader keeps, which is little
+-- what was taken is what the frames used and the reader keeps, and it wants more
 abbrev pub invariant-pieces : goal.invariant-pieces
 invariant-pieces g l = record {
   within : IsWithinLimits l.received;
-  unfinished : l.reader.finished ≡ false;
-  short : length l.reader.rest < HEADER_LEN + record_limit;
-  inside : (s : Spelling) → l.reader.spelling ≡ Some s → length l.reader.rest < record_limit;
+  wants : WantsMore l.reader;
   named : g.S.Source.name l.source ≡ g.S.Source.name l.initial.source;
   read : (fed : List ℕ) × Consumes (g.S.Source.left l.initial.source) (g.S.Source.left l.source) fed
       × HasRead fed l.received l.reader

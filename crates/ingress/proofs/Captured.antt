@@ -1,7 +1,7 @@
 -- How long captures are that a port takes, and when one passes its limits.
 use Rattle.std.proofs.Common.{◌≡◌, ◌∙◌, sym, ap, subst, ◌⊎◌, inl, inr, ℕ, ◌+◌, ◌*◌, ◌<◌, List, [], ◌∷◌, ◌++◌, length, Some, None, append_assoc, arith}
 use Rattle.std.proofs.lemmas.List.{length-append}
-use Rattle.std.proofs.lemmas.List.Sums.{sum_by-cons}
+use Rattle.std.proofs.lemmas.List.Sums.{sum_by-append, sum_by-cons}
 use Rattle.onvm_base.specs.declared.frame.Frame.{Frame}
 use Rattle.pcap_in.specs.Calls.{HasRead}
 use Rattle.pcap_in.specs.Classic.{AreRecords, IsCaptureIn}
@@ -12,8 +12,8 @@ use Rattle.pcap_in.specs.declared.pull.Pull.TheVariants as pull
 use Rattle.pcap_in.specs.declared.spelling.Spelling.{Spelling}
 use Rattle.pcap_in.proofs.HasRead.{IsBehind-pulled}
 use Rattle.pcap_in.proofs.OneAnswer.{GivesFrame}
-use Rattle.onvm_top.specs.Fed.{EndsEarly}
-use Rattle.onvm_top.specs.Limits.{bytes_of, record_limit, capture_limit, IsWithinLimits, PassesLimit}
+use Rattle.ingress.specs.Fed.{WantsMore}
+use Rattle.ingress.specs.Limits.{bytes_of, record_limit, capture_limit, IsWithinLimits, PassesLimit}
 
 -- the bytes of records
 length-AreRecords : (s : Spelling) (text : List ℕ) (frames : List Frame) → AreRecords s text frames
@@ -32,6 +32,17 @@ length-IsCapture s text frames (header, others, text-is, is, are) =
     let both : length text ≡ length header + length others =
     ap (length {A = ℕ}) text-is ∙ length-append header others in
     omega (arith, is.size)
+
+-- the first frames of some that a port takes are taken
+pub within_first : (frames first rest : List Frame) → frames ≡ first ++ rest → IsWithinLimits frames
+    → IsWithinLimits first
+within_first frames first rest split within =
+    let count = ap (length {A = Frame}) split ∙ length-append first rest in
+    let bytes = ap bytes_of split ∙ sum_by-append (λ (frame : Frame). length frame.packet) first rest in
+    record {
+      few = omega (arith, count, within.few);
+      small = omega (arith, bytes, within.small);
+    }
 
 short_record : (s : Spelling) (rest : List ℕ) → EndsInRecord s rest → length rest < record_limit
 short_record s rest (inl few) = omega arith
@@ -55,12 +66,14 @@ inside_at old (inr (inl (none, s', header, rest, text, is, ends))) s known =
     let clash : None ≡ Some s = sym none ∙ known in cc
 inside_at old (inr (inr (s', known', ends))) s known = short_record s' old.rest ends
 
--- where more is wanted, little is kept
-pub EndsEarly-more : (old new : Reading) → Pulls old pull.More new → EndsEarly new
-EndsEarly-more old new pulls =
-    let P : Reading → Type 0 = EndsEarly in
-    subst P (sym pulls.0)
-    (record { unfinished = pulls.1; short = early_at old pulls.2; inside = inside_at old pulls.2 })
+-- where more is wanted, less than a header and a record is kept
+pub short-WantsMore : (reading : Reading) → WantsMore reading → length reading.rest < HEADER_LEN + record_limit
+short-WantsMore reading wants = early_at reading wants.2
+
+-- and less than a record once the header is known
+pub inside-WantsMore : (reading : Reading) → WantsMore reading
+    → (s : Spelling) → reading.spelling ≡ Some s → length reading.rest < record_limit
+inside-WantsMore reading wants = inside_at reading wants.2
 
 -- each frame uses bytes of the rest
 used_at : (frame : Frame) (old new : Reading) → AtRecord old (GivesFrame frame new) → length new.rest < length old.rest

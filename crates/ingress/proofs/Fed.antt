@@ -6,8 +6,8 @@ use Rattle.pcap_in.specs.Calls.{HasRead}
 use Rattle.pcap_in.specs.declared.judge.TheConstants.{HEADER_LEN}
 use Rattle.pcap_in.specs.Reading.{Reading}
 use Rattle.pcap_in.specs.declared.spelling.Spelling.{Spelling}
-use Rattle.onvm_top.specs.Limits.{capture_limit, record_limit, IsWithinLimits}
-use Rattle.onvm_top.proofs.Captured.{length-IsCapture}
+use Rattle.ingress.specs.Limits.{capture_limit, record_limit, IsWithinLimits}
+use Rattle.ingress.proofs.Captured.{length-IsCapture}
 
 -- of frames that a port takes, with less than a record to come
 pub length-fed : (fed : List ℕ) (frames : List Frame) (reading : Reading)

@@ -7,10 +7,10 @@ use Rattle.pcap_in.specs.Calls.{HasRead}
 use Rattle.std.proofs.lemmas.Result.{err_from_is_err_and}
 use Rattle.pcap_in.specs.Faulty.{IsCaptureUpTo}
 use Rattle.pcap_in.specs.declared.pull.PcapFault.{PcapFault}
-use Rattle.onvm_top.specs.declared.input.CaptureFault.TheVariants as fault
+use Rattle.ingress.specs.declared.capture.CaptureFault.TheVariants as fault
 use Rattle.pcap_in.proofs.HasRead.{HasRead-pulled, IsCapture-ended, IsCaptureUpTo-met}
-use Rattle.onvm_top.proofs.Captured.{PassesLimit-pulled}
-use Rattle.onvm_top.proofs.input.pull_frames.Goals as goal
+use Rattle.ingress.proofs.Captured.{PassesLimit-pulled}
+use Rattle.ingress.proofs.capture.pull_frames.Goals as goal
 
 pub pulls-preserved : goal.pulls-preserved
 pulls-preserved c =

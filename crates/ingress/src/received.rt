@@ -1,8 +1,8 @@
 //! The frames of a port, within its limits.
 ghost use Rattle.std.specs.Prelude.{◌≡◌, ◌⊎◌, [], ◌∷◌, ◌++◌, OnOk, IfErr, Err};
-ghost use Rattle.onvm_top.specs.Limits.{IsWithinLimits};
+ghost use Rattle.ingress.specs.Limits.{IsWithinLimits};
 
-use crate::input::CaptureFault;
+use crate::capture::CaptureFault;
 use onvm_base::{Frame, Frames, MAX_PORT_BYTES, MAX_PORT_FRAMES};
 use std::alloc::Global;
 use std::marker::Model;
@@ -17,7 +17,7 @@ pub struct Received {
 impl Model for Received {
     ghost use Rattle.std.specs.Prelude.{◌≡◌, List};
     ghost use Rattle.onvm_base.specs.declared.frame.Frame.{Frame};
-    ghost use Rattle.onvm_top.specs.Limits.{bytes_of, IsWithinLimits};
+    ghost use Rattle.ingress.specs.Limits.{bytes_of, IsWithinLimits};
 
     ghost Value = { List Frame };
 

@@ -1,7 +1,7 @@
 use Rattle.std.proofs.Common.{◌≡◌, List, ℕ, length}
 use Rattle.pcap_in.specs.Calls.{HasRead}
-use Rattle.onvm_top.specs.Limits.{IsWithinLimits}
-use Rattle.onvm_top.proofs.input.pull_frames.Given as goal
+use Rattle.ingress.specs.Limits.{IsWithinLimits}
+use Rattle.ingress.proofs.capture.pull_frames.Given as goal
 
 -- what was read before is read still, and what was pulled besides
 abbrev pub invariant-pulls : goal.invariant-pulls

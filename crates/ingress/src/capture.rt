@@ -1,13 +1,14 @@
 //! Captures read to their end.
 ghost use Rattle.std.specs.Prelude.{◌≡◌, ◌≢◌, ◌⊎◌, ◌≤◌, ◌<◌, ◌+◌, ◌^◌, ℕ, List, [], ◌∷◌, ◌++◌, None, Some, IfOk, IfErr, OnOk, Ok, Err, length, true, false};
+ghost use Rattle.std.specs.Io.KnownBytes.{Keeps};
 ghost use Rattle.onvm_base.specs.declared.frame.Frame.{Frame};
 ghost use Rattle.pcap_in.specs.Calls.{HasRead};
 ghost use Rattle.pcap_in.specs.Classic.{IsCapture};
 ghost use Rattle.pcap_in.specs.Faulty.{IsCaptureUpTo};
 ghost use Rattle.pcap_in.specs.declared.pull.PcapFault.{PcapFault};
-ghost use Rattle.onvm_top.specs.Limits.{capture_limit, IsWithinLimits, PassesLimit};
-ghost use Rattle.onvm_top.specs.Moved.{Reads};
-ghost use Rattle.onvm_top.specs.Fed.{EndsEarly, Feeds};
+ghost use Rattle.ingress.specs.Limits.{capture_limit, IsWithinLimits, PassesLimit};
+ghost use Rattle.onvm_host.specs.Moved.{Reads};
+ghost use Rattle.ingress.specs.Fed.{Feeds, IsCutOff, WantsMore};
 
 use crate::received::Received;
 use onvm_base::Frames;
@@ -39,6 +40,8 @@ pub fn read_frames<S: Source>(alloc: Global, source: &mut S) -> Result<Frames, C
         → (text : List ℕ) → S.left source.old ≡ Some text → PassesLimit text }
     ensures read { result ≡ Err CaptureFault.Read
         → Reads capture_limit None (S.takes source.old) (S.takes source.new) }
+    ensures sound { result ≡ Err CaptureFault.Read → IsCutOff (S.left source.old)
+        (S.left source.new) (S.takes source.old) (S.takes source.new) }
     ensures ended { result ≢ Err CaptureFault.Read
         → (last : ℕ) × Reads capture_limit (Some last) (S.takes source.old) (S.takes source.new) }
     ensures named { S.name source.new ≡ S.name source.old }
@@ -66,7 +69,8 @@ fn feed_piece<S: Source>(
     ensures ok { OnOk result (Feeds (S.left source.old) (S.left source.new)
         (S.takes source.old) (S.takes source.new) reader.old reader.new) }
     ensures read { result ≡ Err CaptureFault.Read
-        → S.takes source.new ≡ S.takes source.old ++ None ∷ [] }
+        → (S.takes source.new ≡ S.takes source.old ++ None ∷ [])
+        × Keeps (S.left source.old) (S.left source.new) }
     ensures memory { result ≡ Err CaptureFault.Memory
         → (count : ℕ) × (S.takes source.new ≡ S.takes source.old ++ Some count ∷ []) }
     ensures only { IfErr result (λ fault.
@@ -106,7 +110,7 @@ fn pull_frames(
         → (frames : List Frame) × IsCaptureUpTo (fed ++ more) frames fault × IsWithinLimits frames }
     ensures too_many { result ≡ Err CaptureFault.TooMany
         → (fed more : List ℕ) → HasRead fed received.old reader.old → PassesLimit (fed ++ more) }
-    ensures more { result ≡ Ok false → EndsEarly reader.new }
+    ensures more { result ≡ Ok false → WantsMore reader.new }
     ensures only { result ≢ Err CaptureFault.Read }
 {
     'pulls: loop {

@@ -1,30 +1,8 @@
--- What takes, puts and says moved together, and where they ended.
-use Rattle.std.specs.Prelude.{◌≡◌, ◌⊎◌, ℕ, ◌+◌, ◌<◌, List, [], ◌∷◌, ◌++◌, length, map, Option, Some, None}
+-- What puts and says appended together, and where they ended.
+use Rattle.std.specs.Prelude.{◌≡◌, ◌⊎◌, ℕ, ◌<◌, List, [], ◌∷◌, ◌++◌, length, map, Option, None}
 use Rattle.std.specs.Io.KnownBytes.{Appends}
 use Rattle.onvm_host.specs.Deeds.{Amounts, Deed, Said}
-
--- each call moved at least one byte, and all together so many
-abbrev pub Moved : ℕ → Amounts → Type 0
-Moved bytes [] = bytes ≡ 0
-Moved bytes (None ∷ amounts) = ⊥
-Moved bytes (Some count ∷ amounts) = (rest : ℕ) × (0 < count) × (bytes ≡ count + rest) × Moved rest amounts
-
--- calls that all moved bytes came behind the earlier ones, so many together
-abbrev pub MovedSince : ℕ → Amounts → Amounts → Type 0
-MovedSince bytes before now = (amounts : Amounts) × (now ≡ before ++ amounts) × Moved bytes amounts
-
--- the last take answered this. Each one before it gave at least one byte, and together they gave
--- fewer than the limit
-pub record IsReading (limit : ℕ) (last : Option ℕ) (takes : Amounts) : Type 0 where
-  pub earlier : Amounts
-  pub bytes : ℕ
-  pub in_order : takes ≡ earlier ++ last ∷ []
-  pub moved : Moved bytes earlier
-  pub fewer : bytes < limit
-
--- such takes came behind the earlier ones
-abbrev pub Reads : ℕ → Option ℕ → Amounts → Amounts → Type 0
-Reads limit last before now = (takes : Amounts) × (now ≡ before ++ takes) × IsReading limit last takes
+use Rattle.onvm_host.specs.Moved.{Moved}
 
 -- calls that append appended all of these bytes
 pub record AppendsAll (old new : Option (List ℕ)) (amounts : Amounts) (whole : List ℕ) : Type 0 where
