@@ -6,7 +6,7 @@ use Rattle.onvm_base.specs.declared.frame.Frame.{Frame}
 use Rattle.pcap_in.specs.Calls.{HasRead}
 use Rattle.pcap_in.specs.Classic.{AreRecords, IsCaptureIn}
 use Rattle.pcap_in.specs.Faulty.{EndsInRecord}
-use Rattle.pcap_in.specs.declared.judge.TheConstants.{HEADER_LEN}
+use Rattle.pcap_in.specs.declared.judge.TheConstants.{HEAD_LEN, HEADER_LEN}
 use Rattle.pcap_in.specs.Reading.{Reading, AtRecord, EndsInHeader, Pulls}
 use Rattle.pcap_in.specs.declared.pull.Pull.TheVariants as pull
 use Rattle.pcap_in.specs.declared.spelling.Spelling.{Spelling}
@@ -17,18 +17,18 @@ use Rattle.ingress.specs.Limits.{bytes_of, record_limit, capture_limit, IsWithin
 
 -- the bytes of records
 length-AreRecords : (s : Spelling) (text : List ℕ) (frames : List Frame) → AreRecords s text frames
-    → length text ≡ 16 * length frames + bytes_of frames
+    → length text ≡ HEAD_LEN * length frames + bytes_of frames
 length-AreRecords s text [] are = ap (length {A = ℕ}) are
 length-AreRecords s text (f ∷ fs) (bytes, others, text-is, is, are) =
-    let rest : length others ≡ 16 * length fs + bytes_of fs = length-AreRecords s others fs are in
+    let rest : length others ≡ HEAD_LEN * length fs + bytes_of fs = length-AreRecords s others fs are in
     let both : length text ≡ length bytes + length others = ap (length {A = ℕ}) text-is ∙ length-append bytes others in
     omega (arith, is.size, sum_by-cons (λ (frame : Frame). length frame.packet) f fs)
 
 -- the bytes of a capture
 pub length-IsCapture : (s : Spelling) (text : List ℕ) (frames : List Frame) → IsCaptureIn s text frames
-    → length text ≡ 24 + 16 * length frames + bytes_of frames
+    → length text ≡ HEADER_LEN + HEAD_LEN * length frames + bytes_of frames
 length-IsCapture s text frames (header, others, text-is, is, are) =
-    let rest : length others ≡ 16 * length frames + bytes_of frames = length-AreRecords s others frames are in
+    let rest : length others ≡ HEAD_LEN * length frames + bytes_of frames = length-AreRecords s others frames are in
     let both : length text ≡ length header + length others =
     ap (length {A = ℕ}) text-is ∙ length-append header others in
     omega (arith, is.size)
