@@ -41,9 +41,12 @@ torn_so_far fed frames reading at read within faulty =
 whole_so_far : (fed : List ℕ) (frames : List Frame) (reading : Reading) → HasRead fed frames reading
     → IsWithinLimits frames → AtRecord (ended reading) (λ s at rest. rest ≡ []) → IsSoundSoFar fed
 unfolding ended
-whole_so_far fed frames reading read within end =
-    (frames, within, inl (IsCapture-ended fed frames (ended reading) (ended reading) (read_ended fed frames reading read)
-    (refl, refl, end)))
+whole_so_far fed frames reading read within end = (
+  frames,
+  within,
+  inl (IsCapture-ended fed frames (ended reading) (ended reading) (read_ended fed frames reading read)
+      (refl, refl, end)),
+)
 
 at_record : (fed : List ℕ) (frames : List Frame) (reading : Reading) → HasRead fed frames reading
     → IsWithinLimits frames → AtRecord reading (λ s at rest. EndsInRecord s rest) → IsSoundSoFar fed

@@ -243,21 +243,21 @@ CannotReadSound-shut before opened now name same fresh takes limit told left lef
     opens cut =
     let sound : OnTold told (CannotReadSound name (Opened name ∷ Shut name takes ∷ [])) =
     λ files is.
-        let text = opens files is in
-        let split = Consumes-rest left left' text.0 cut.bytes text.2 cut.consumed in
-        inr (
-          takes,
-          refl,
-          record {
-            front = cut.bytes;
-            rest = split.0;
-            file = text.1 ∙ ap (λ t. Some t) split.2;
-            earlier = cut.earlier;
-            in_order = cut.taken ∙ ap (λ t. t ++ (cut.earlier ++ None ∷ [])) none;
-            moved = cut.moved;
-            sound = cut.sound;
-          },
-        ) in (
+    let text = opens files is in
+    let split = Consumes-rest left left' text.0 cut.bytes text.2 cut.consumed in
+    inr (
+      takes,
+      refl,
+      record {
+        front = cut.bytes;
+        rest = split.0;
+        file = text.1 ∙ ap (λ t. Some t) split.2;
+        earlier = cut.earlier;
+        in_order = cut.taken ∙ ap (λ t. t ++ (cut.earlier ++ None ∷ [])) none;
+        moved = cut.moved;
+        sound = cut.sound;
+      },
+    ) in (
       Opened name ∷ Shut name takes ∷ [],
       shut_after before opened now name same takes first second named,
       (inr (takes, refl, reading_of limit None fresh takes none reads), sound),
