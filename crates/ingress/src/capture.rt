@@ -1,5 +1,5 @@
 //! Captures read to their end.
-ghost use Rattle.std.specs.Prelude.{◌≡◌, ◌≢◌, ◌⊎◌, ◌≤◌, ◌<◌, ◌+◌, ◌^◌, ℕ, List, [], ◌∷◌, ◌++◌, None, Some, IfOk, IfErr, OnOk, Ok, Err, length, true, false};
+ghost use Rattle.std.specs.Prelude.{◌≡◌, ◌≢◌, ◌⊎◌, ◌≤◌, ◌<◌, ◌+◌, ◌^◌, ℕ, List, [], ◌∷◌, ◌++◌, None, Some, IfOk, IfErr, OnErr, OnOk, Ok, Err, length, true, false};
 ghost use Rattle.std.specs.Io.KnownBytes.{Keeps};
 ghost use Rattle.onvm_base.specs.declared.frame.Frame.{Frame};
 ghost use Rattle.pcap_in.specs.Calls.{HasRead};
@@ -75,6 +75,7 @@ fn feed_piece<S: Source>(
         → (count : ℕ) × (S.takes source.new ≡ S.takes source.old ++ Some count ∷ []) }
     ensures only { IfErr result (λ fault.
         (fault ≡ CaptureFault.Read) ⊎ (fault ≡ CaptureFault.Memory)) }
+    ensures err { OnErr result (reader.new ≡ reader.old) }
     ensures named { S.name source.new ≡ S.name source.old }
 {
     let Ok(count) = source.take(piece) else {

@@ -1,5 +1,5 @@
 //! The frames of a port, within its limits.
-ghost use Rattle.std.specs.Prelude.{◌≡◌, ◌⊎◌, [], ◌∷◌, ◌++◌, OnOk, IfErr, Err};
+ghost use Rattle.std.specs.Prelude.{◌≡◌, ◌⊎◌, [], ◌∷◌, ◌++◌, OnErr, OnOk, IfErr, Err};
 ghost use Rattle.ingress.specs.Limits.{IsWithinLimits};
 
 use crate::capture::CaptureFault;
@@ -40,6 +40,7 @@ impl Received {
     /// Takes the next frame, unless it passes a limit.
     pub fn add(&mut self, frame: Frame) -> Result<(), CaptureFault>
         ensures ok { OnOk result (self.new ≡ self.old ++ frame ∷ []) }
+        ensures err { OnErr result (self.new ≡ self.old) }
         ensures within { IsWithinLimits self.new }
         ensures too_many { result ≡ Err CaptureFault.TooMany
             → ¬ (IsWithinLimits (self.old ++ frame ∷ [])) }
