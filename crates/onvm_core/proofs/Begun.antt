@@ -8,7 +8,7 @@ use Rattle.onvm_core.specs.declared.step.Act.{Act}
 use Rattle.onvm_core.specs.declared.step.Act.TheVariants.{Split, Join, Take, Give, Push, Full, Pop, Empty, Look, Post}
 use Rattle.onvm_core.specs.Places.{one_if}
 use Rattle.onvm_core.specs.Logs.{Setting, Log, feeders, frame_after, IsNumbered}
-use Rattle.onvm_core.specs.Receiving.{ReceivePhase, asked, sought, receive_after, receive_phase, done_in, IsBetween, IsMark, MayReceive, MayReceiveFor}
+use Rattle.onvm_core.specs.Receiving.{ReceivePhase, asked, sought, receive_after, receive_phase, done_in, IsBetween, IsMark, MayReceive}
 use Rattle.onvm_core.specs.Sending.{SendPhase, send_phase, MaySend}
 use Rattle.onvm_core.specs.Blocks.{Kind, kind_of, MayFollow}
 use Rattle.onvm_core.specs.Frames.{block_frame, same_frame, begun_in}
@@ -19,6 +19,8 @@ use Rattle.onvm_core.specs.declared.entry.Entry.{Entry}
 use Rattle.onvm_core.specs.Receiving.ReceivePhase.{Between, Asks, Seeks, Sees, Took, Barred}
 use Rattle.onvm_core.specs.Sending.SendPhase.{Free, Moves as Sending, TurnsBack}
 use Rattle.onvm_core.specs.Blocks.Kind.{Receives, Sends, Handles, Ticks, Leads}
+use Rattle.onvm_core.proofs.InBlock.{InBlock, in_block}
+use Rattle.onvm_core.proofs.InBlock.InBlock.{AsksFirst, AsksOn, SeeksOn, Takes, Enters, FindsFull, Leaves, GivesBack}
 
 -- how many frames like this one an act begins
 abbrev pub starts : FrameId → FrameId → Act → ℕ
@@ -46,93 +48,26 @@ told_begins frame setting port done e told numbered found same =
     ap (λ (f : FrameId). one_if (same_frame f frame)) (same ∙ numbered port done e found)
 
 receive_begins : (setting : Setting) (port : ℕ) (e : Entry) (phase : ReceivePhase) (act : Act) (frame : FrameId)
-    → IsNumbered setting → frame_after setting port (done_in phase) ≡ Some e → MayReceiveFor setting port e phase act
+    → IsNumbered setting → frame_after setting port (done_in phase) ≡ Some e → InBlock setting port e phase act
     → Begins frame port (begun_in phase) (begun_in (receive_after setting phase act))
     (starts (record { port = record { 0 = port }; number = done_in phase + 1 }) frame act)
-receive_begins setting port e (Between done) (Take b) frame numbered found may = absurd may
-receive_begins setting port e (Between done) (Give b outcome parcel) frame numbered found may = absurd may
-receive_begins setting port e (Between done) (Push r i) frame numbered found may = absurd may
-receive_begins setting port e (Between done) (Pop r i) frame numbered found may = absurd may
-receive_begins setting port e (Between done) (Split a) frame numbered found may = absurd may
-receive_begins setting port e (Between done) (Join a) frame numbered found may = absurd may
-receive_begins setting port e (Between done) (Full r) frame numbered found may = absurd may
-receive_begins setting port e (Between done) (Empty a) frame numbered found may = absurd may
-receive_begins setting port e (Between done) (Look (PostWord f) v None) frame numbered found may =
+receive_begins setting port e phase act frame numbered found (AsksFirst done f v None may) =
     inl (asked_begun setting done 0, refl)
-receive_begins setting port e (Between done) (Look (PoolWord f g) v None) frame numbered found may =
-    absurd (let off : PoolWord f g ≡ PostWord 0 = may.0 in cc)
-receive_begins setting port e (Between done) (Look (Cell f g) v None) frame numbered found may =
-    absurd (let off : Cell f g ≡ PostWord 0 = may.0 in cc)
-receive_begins setting port e (Between done) (Look (Weight f) v None) frame numbered found may =
-    absurd (let off : Weight f ≡ PostWord 0 = may.0 in cc)
-receive_begins setting port e (Between done) (Look (PostWord f) v (Some told)) frame numbered found may =
+receive_begins setting port e phase act frame numbered found (AsksFirst done f v (Some told) may) =
     inr (refl, told_begins frame setting port done e told numbered found (ap (λ (r : Record). r.frame) may.1.told_is))
-receive_begins setting port e (Between done) (Look (PoolWord f g) v (Some told)) frame numbered found may =
-    absurd (let off : PoolWord f g ≡ PostWord 0 = may.0 in cc)
-receive_begins setting port e (Between done) (Look (Cell f g) v (Some told)) frame numbered found may =
-    absurd (let off : Cell f g ≡ PostWord 0 = may.0 in cc)
-receive_begins setting port e (Between done) (Look (Weight f) v (Some told)) frame numbered found may =
-    absurd (let off : Weight f ≡ PostWord 0 = may.0 in cc)
-receive_begins setting port e (Between done) (Post a b) frame numbered found may = absurd may
-receive_begins setting port e (Asks done k) (Take b) frame numbered found may = absurd may
-receive_begins setting port e (Asks done k) (Give b outcome parcel) frame numbered found may = absurd may
-receive_begins setting port e (Asks done k) (Push r i) frame numbered found may = absurd may
-receive_begins setting port e (Asks done k) (Pop r i) frame numbered found may = absurd may
-receive_begins setting port e (Asks done k) (Split a) frame numbered found may = absurd may
-receive_begins setting port e (Asks done k) (Join a) frame numbered found may = absurd may
-receive_begins setting port e (Asks done k) (Full r) frame numbered found may = absurd may
-receive_begins setting port e (Asks done k) (Empty a) frame numbered found may = absurd may
-receive_begins setting port e (Asks done k) (Look w v None) frame numbered found may =
+receive_begins setting port e phase act frame numbered found (AsksOn done k w v None may) =
     inl (asked_begun setting done k, refl)
-receive_begins setting port e (Asks done k) (Look w v (Some told)) frame numbered found may =
+receive_begins setting port e phase act frame numbered found (AsksOn done k w v (Some told) may) =
     inr (refl, told_begins frame setting port done e told numbered found (ap (λ (r : Record). r.frame) may.1.told_is))
-receive_begins setting port e (Asks done k) (Post a b) frame numbered found may = absurd may
-receive_begins setting port e (Seeks done k) (Take b) frame numbered found may = absurd may
-receive_begins setting port e (Seeks done k) (Give b outcome parcel) frame numbered found may = absurd may
-receive_begins setting port e (Seeks done k) (Push r i) frame numbered found may = absurd may
-receive_begins setting port e (Seeks done k) (Pop r i) frame numbered found may = absurd may
-receive_begins setting port e (Seeks done k) (Split a) frame numbered found may = absurd may
-receive_begins setting port e (Seeks done k) (Join a) frame numbered found may = absurd may
-receive_begins setting port e (Seeks done k) (Full r) frame numbered found may = absurd may
-receive_begins setting port e (Seeks done k) (Empty a) frame numbered found may = absurd may
-receive_begins setting port e (Seeks done k) (Look w v None) frame numbered found may =
+receive_begins setting port e phase act frame numbered found (SeeksOn done k w v None may) =
     inl (sought_begun done k v, refl)
-receive_begins setting port e (Seeks done k) (Look w v (Some told)) frame numbered found may =
+receive_begins setting port e phase act frame numbered found (SeeksOn done k w v (Some told) may) =
     inr (refl, told_begins frame setting port done e told numbered found (ap (λ (r : Record). r.frame) may.1.told_is))
-receive_begins setting port e (Seeks done k) (Post a b) frame numbered found may = absurd may
-receive_begins setting port e (Sees done index seen) (Take b) frame numbered found may = inr (refl, refl)
-receive_begins setting port e (Sees done index seen) (Give b outcome parcel) frame numbered found may = absurd may
-receive_begins setting port e (Sees done index seen) (Push r i) frame numbered found may = absurd may
-receive_begins setting port e (Sees done index seen) (Pop r i) frame numbered found may = absurd may
-receive_begins setting port e (Sees done index seen) (Split a) frame numbered found may = absurd may
-receive_begins setting port e (Sees done index seen) (Join a) frame numbered found may = absurd may
-receive_begins setting port e (Sees done index seen) (Full r) frame numbered found may = absurd may
-receive_begins setting port e (Sees done index seen) (Empty a) frame numbered found may = absurd may
-receive_begins setting port e (Sees done index seen) (Look w v None) frame numbered found may = absurd may
-receive_begins setting port e (Sees done index seen) (Look w v (Some told)) frame numbered found may = absurd may
-receive_begins setting port e (Sees done index seen) (Post a b) frame numbered found may = absurd may
-receive_begins setting port e (Took done buf) (Take b) frame numbered found may = absurd may
-receive_begins setting port e (Took done buf) (Give b outcome parcel) frame numbered found may = inl (refl, refl)
-receive_begins setting port e (Took done buf) (Push r i) frame numbered found may = inl (refl, refl)
-receive_begins setting port e (Took done buf) (Pop r i) frame numbered found may = absurd may
-receive_begins setting port e (Took done buf) (Split a) frame numbered found may = absurd may
-receive_begins setting port e (Took done buf) (Join a) frame numbered found may = absurd may
-receive_begins setting port e (Took done buf) (Full r) frame numbered found may = inl (refl, refl)
-receive_begins setting port e (Took done buf) (Empty a) frame numbered found may = absurd may
-receive_begins setting port e (Took done buf) (Look w v None) frame numbered found may = absurd may
-receive_begins setting port e (Took done buf) (Look w v (Some told)) frame numbered found may = absurd may
-receive_begins setting port e (Took done buf) (Post a b) frame numbered found may = absurd may
-receive_begins setting port e (Barred done buf ring) (Take b) frame numbered found may = absurd may
-receive_begins setting port e (Barred done buf ring) (Give b outcome parcel) frame numbered found may = inl (refl, refl)
-receive_begins setting port e (Barred done buf ring) (Push r i) frame numbered found may = absurd may
-receive_begins setting port e (Barred done buf ring) (Pop r i) frame numbered found may = absurd may
-receive_begins setting port e (Barred done buf ring) (Split a) frame numbered found may = absurd may
-receive_begins setting port e (Barred done buf ring) (Join a) frame numbered found may = absurd may
-receive_begins setting port e (Barred done buf ring) (Full r) frame numbered found may = absurd may
-receive_begins setting port e (Barred done buf ring) (Empty a) frame numbered found may = absurd may
-receive_begins setting port e (Barred done buf ring) (Look w v None) frame numbered found may = absurd may
-receive_begins setting port e (Barred done buf ring) (Look w v (Some told)) frame numbered found may = absurd may
-receive_begins setting port e (Barred done buf ring) (Post a b) frame numbered found may = absurd may
+receive_begins setting port e phase act frame numbered found (Takes done index seen b may) = inr (refl, refl)
+receive_begins setting port e phase act frame numbered found (Enters done buf ring b parcel may) = inl (refl, refl)
+receive_begins setting port e phase act frame numbered found (FindsFull done buf ring may) = inl (refl, refl)
+receive_begins setting port e phase act frame numbered found (Leaves done buf b q parcel may) = inl (refl, refl)
+receive_begins setting port e phase act frame numbered found (GivesBack done buf ring b outcome parcel may) = inl (refl, refl)
 
 mark_starts : (setting : Setting) (feeder : ℕ) (act : Act) (fresh frame : FrameId) → IsMark setting feeder act
     → starts fresh frame act ≡ 0
@@ -187,7 +122,7 @@ own_begins setting port log act frame numbered may =
             mark_begins setting port (receive_phase setting log) act mark.0 mark.1,
             mark_starts setting port act (block_frame setting port log) frame mark.1,
           )
-      | inr block ↦ receive_begins setting port block.0 (receive_phase setting log) act frame numbered block.1 block.2
+      | inr block ↦ receive_begins setting port block.0 (receive_phase setting log) act frame numbered block.1 (in_block setting port block.0 (receive_phase setting log) act block.2)
     ]
 
 send_starts : (setting : Setting) (feeder : ℕ) (phase : SendPhase) (act : Act) (fresh frame : FrameId)

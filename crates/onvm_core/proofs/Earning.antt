@@ -32,6 +32,8 @@ use Rattle.onvm_core.specs.Earned.{EndsWithLooks, IsEarnedEmpty, IsEarnedFull, I
 use Rattle.onvm_core.proofs.Hands.{IsKind, is_kind}
 use Rattle.onvm_core.proofs.Balance.{own_blocks}
 use Rattle.onvm_core.proofs.Loads.{Each}
+use Rattle.onvm_core.proofs.InBlock.{InBlock, in_block}
+use Rattle.onvm_core.proofs.InBlock.InBlock.{AsksFirst, AsksOn, SeeksOn, Takes, Enters, FindsFull, Leaves, GivesBack}
 
 -- What the log of a receive role ends with: the looks at the part's words, or the ring that was found full
 
@@ -86,59 +88,16 @@ entered_full setting port e ring before enters =
     record { function = enters.function; feeder = port; lane = enters.lane; before = before; full = refl }
 
 receive_so : (setting : Setting) (port : ℕ) (e : Entry) (phase : ReceivePhase) (act : Act) (before : Log)
-    → EndsSo port before phase → MayReceiveFor setting port e phase act
+    → EndsSo port before phase → InBlock setting port e phase act
     → EndsSo port (act ∷ before) (receive_after setting phase act)
-receive_so setting port e (Between done) act before h may = between_so setting port done act (act ∷ before)
-receive_so setting port e (Asks done k) (Split a) before h may = absurd may
-receive_so setting port e (Asks done k) (Join a) before h may = absurd may
-receive_so setting port e (Asks done k) (Take a) before h may = absurd may
-receive_so setting port e (Asks done k) (Give a b c) before h may = absurd may
-receive_so setting port e (Asks done k) (Push a b) before h may = absurd may
-receive_so setting port e (Asks done k) (Full a) before h may = absurd may
-receive_so setting port e (Asks done k) (Pop a b) before h may = absurd may
-receive_so setting port e (Asks done k) (Empty a) before h may = absurd may
-receive_so setting port e (Asks done k) (Look a b c) before h may = asked_so setting port done k c (Look a b c ∷ before)
-receive_so setting port e (Asks done k) (Post a b) before h may = absurd may
-receive_so setting port e (Seeks done k) (Split a) before h may = absurd may
-receive_so setting port e (Seeks done k) (Join a) before h may = absurd may
-receive_so setting port e (Seeks done k) (Take a) before h may = absurd may
-receive_so setting port e (Seeks done k) (Give a b c) before h may = absurd may
-receive_so setting port e (Seeks done k) (Push a b) before h may = absurd may
-receive_so setting port e (Seeks done k) (Full a) before h may = absurd may
-receive_so setting port e (Seeks done k) (Pop a b) before h may = absurd may
-receive_so setting port e (Seeks done k) (Empty a) before h may = absurd may
-receive_so setting port e (Seeks done k) (Look a b c) before h may = sought_so setting port done k b a e c before may h
-receive_so setting port e (Seeks done k) (Post a b) before h may = absurd may
-receive_so setting port e (Sees done index seen) (Split a) before h may = absurd may
-receive_so setting port e (Sees done index seen) (Join a) before h may = absurd may
-receive_so setting port e (Sees done index seen) (Take a) before h may = tt
-receive_so setting port e (Sees done index seen) (Give a b c) before h may = absurd may
-receive_so setting port e (Sees done index seen) (Push a b) before h may = absurd may
-receive_so setting port e (Sees done index seen) (Full a) before h may = absurd may
-receive_so setting port e (Sees done index seen) (Pop a b) before h may = absurd may
-receive_so setting port e (Sees done index seen) (Empty a) before h may = absurd may
-receive_so setting port e (Sees done index seen) (Look a b c) before h may = absurd may
-receive_so setting port e (Sees done index seen) (Post a b) before h may = absurd may
-receive_so setting port e (Took done buf) (Split a) before h may = absurd may
-receive_so setting port e (Took done buf) (Join a) before h may = absurd may
-receive_so setting port e (Took done buf) (Take a) before h may = absurd may
-receive_so setting port e (Took done buf) (Give a b c) before h may = tt
-receive_so setting port e (Took done buf) (Push a b) before h may = tt
-receive_so setting port e (Took done buf) (Full a) before h may = entered_full setting port e a before may
-receive_so setting port e (Took done buf) (Pop a b) before h may = absurd may
-receive_so setting port e (Took done buf) (Empty a) before h may = absurd may
-receive_so setting port e (Took done buf) (Look a b c) before h may = absurd may
-receive_so setting port e (Took done buf) (Post a b) before h may = absurd may
-receive_so setting port e (Barred done buf ring) (Split a) before h may = absurd may
-receive_so setting port e (Barred done buf ring) (Join a) before h may = absurd may
-receive_so setting port e (Barred done buf ring) (Take a) before h may = absurd may
-receive_so setting port e (Barred done buf ring) (Give a b c) before h may = tt
-receive_so setting port e (Barred done buf ring) (Push a b) before h may = absurd may
-receive_so setting port e (Barred done buf ring) (Full a) before h may = absurd may
-receive_so setting port e (Barred done buf ring) (Pop a b) before h may = absurd may
-receive_so setting port e (Barred done buf ring) (Empty a) before h may = absurd may
-receive_so setting port e (Barred done buf ring) (Look a b c) before h may = absurd may
-receive_so setting port e (Barred done buf ring) (Post a b) before h may = absurd may
+receive_so setting port e phase act before h (AsksFirst done f v t may) = asked_so setting port done 0 t (Look (PostWord f) v t ∷ before)
+receive_so setting port e phase act before h (AsksOn done k w v t may) = asked_so setting port done k t (Look w v t ∷ before)
+receive_so setting port e phase act before h (SeeksOn done k w v t may) = sought_so setting port done k v w e t before may h
+receive_so setting port e phase act before h (Takes done index seen b may) = tt
+receive_so setting port e phase act before h (Enters done buf ring b parcel may) = tt
+receive_so setting port e phase act before h (FindsFull done buf ring may) = entered_full setting port e ring before may
+receive_so setting port e phase act before h (Leaves done buf b q parcel may) = tt
+receive_so setting port e phase act before h (GivesBack done buf ring b outcome parcel may) = tt
 
 mark_so : (setting : Setting) (port : ℕ) (phase : ReceivePhase) (act : Act) (log : Log) → IsBetween phase
     → EndsSo port log (receive_after setting phase act)
@@ -157,7 +116,7 @@ receive_ends setting port (act ∷ before) kind =
       | inl mark ↦ mark_so setting port (receive_phase setting before) act (act ∷ before) mark.0
       | inr block ↦
           receive_so setting port block.0 (receive_phase setting before) act before
-          (receive_ends setting port before kind.1) block.2
+          (receive_ends setting port before kind.1) (in_block setting port block.0 (receive_phase setting before) act block.2)
     ]
 
 -- What the log of a transmit role ends with: the ring that was found full

@@ -9,7 +9,7 @@ use Rattle.onvm_core.specs.declared.step.Item.TheVariants.{Buffer, Number}
 use Rattle.onvm_core.specs.declared.step.Act.{Act}
 use Rattle.onvm_core.specs.declared.step.Act.TheVariants.{Split, Join, Take, Give, Push, Full, Pop, Empty, Look, Post}
 use Rattle.onvm_core.specs.Logs.{Setting, Log, Hand, feeders, frame_after, entry_parcel, IsNumbered}
-use Rattle.onvm_core.specs.Receiving.{ReceivePhase, asked, sought, receive_after, receive_phase, done_in, IsBetween, IsMark, MayReceiveFor}
+use Rattle.onvm_core.specs.Receiving.{ReceivePhase, asked, sought, receive_after, receive_phase, done_in, IsBetween, IsMark}
 use Rattle.onvm_core.specs.Handling.{core_hand, handles, MayHandle}
 use Rattle.onvm_core.specs.Sending.{SendPhase, send_after, send_phase, MaySend}
 use Rattle.onvm_core.specs.Blocks.{Kind, kind_of, MayTick, MayLead, MayFollow, IsOfBlocks}
@@ -24,6 +24,8 @@ use Rattle.onvm_core.specs.Sending.SendPhase.{Free, Moves as Sending, TurnsBack}
 use Rattle.onvm_core.specs.Blocks.Kind.{Receives, Sends, Handles, Ticks, Leads}
 use Rattle.onvm_core.specs.Frames.Load.{Fresh, Loaded}
 use Rattle.onvm_core.proofs.Loads.{own_load, own_load_after}
+use Rattle.onvm_core.proofs.InBlock.{InBlock, in_block}
+use Rattle.onvm_core.proofs.InBlock.InBlock.{AsksFirst, AsksOn, SeeksOn, Takes, Enters, FindsFull, Leaves, GivesBack}
 
 -- Receive roles
 
@@ -64,62 +66,17 @@ between_free setting port done (Empty a) own = tt
 between_free setting port done (Post a b) own = tt
 
 receive_for : (setting : Setting) (port : ℕ) (e : Entry) (phase : ReceivePhase) (act : Act) (own : Option (ℕ × Load))
-    → HasTaken port own phase → MayReceiveFor setting port e phase act
+    → HasTaken port own phase → InBlock setting port e phase act
     → HasTaken port (own_load_after (record { port = record { 0 = port }; number = done_in phase + 1 }) act own)
     (receive_after setting phase act)
-receive_for setting port e (Between done) act own h may =
-    between_free setting port done act
-    (own_load_after (record { port = record { 0 = port }; number = done + 1 }) act own)
-receive_for setting port e (Asks done k) (Take b) own h may = tt
-receive_for setting port e (Asks done k) (Give b outcome parcel) own h may = tt
-receive_for setting port e (Asks done k) (Push r i) own h may = tt
-receive_for setting port e (Asks done k) (Pop r i) own h may = tt
-receive_for setting port e (Asks done k) (Split a) own h may = tt
-receive_for setting port e (Asks done k) (Join a) own h may = tt
-receive_for setting port e (Asks done k) (Full r) own h may = tt
-receive_for setting port e (Asks done k) (Empty a) own h may = tt
-receive_for setting port e (Asks done k) (Look w v t) own h may = asked_free setting port done k t own
-receive_for setting port e (Asks done k) (Post a b) own h may = tt
-receive_for setting port e (Seeks done k) (Take b) own h may = tt
-receive_for setting port e (Seeks done k) (Give b outcome parcel) own h may = tt
-receive_for setting port e (Seeks done k) (Push r i) own h may = tt
-receive_for setting port e (Seeks done k) (Pop r i) own h may = tt
-receive_for setting port e (Seeks done k) (Split a) own h may = tt
-receive_for setting port e (Seeks done k) (Join a) own h may = tt
-receive_for setting port e (Seeks done k) (Full r) own h may = tt
-receive_for setting port e (Seeks done k) (Empty a) own h may = tt
-receive_for setting port e (Seeks done k) (Look w v t) own h may = sought_free port done k v t own
-receive_for setting port e (Seeks done k) (Post a b) own h may = tt
-receive_for setting port e (Sees done index seen) (Take b) own h may = refl
-receive_for setting port e (Sees done index seen) (Give b outcome parcel) own h may = tt
-receive_for setting port e (Sees done index seen) (Push r i) own h may = tt
-receive_for setting port e (Sees done index seen) (Pop r i) own h may = tt
-receive_for setting port e (Sees done index seen) (Split a) own h may = tt
-receive_for setting port e (Sees done index seen) (Join a) own h may = tt
-receive_for setting port e (Sees done index seen) (Full r) own h may = tt
-receive_for setting port e (Sees done index seen) (Empty a) own h may = tt
-receive_for setting port e (Sees done index seen) (Look w v t) own h may = tt
-receive_for setting port e (Sees done index seen) (Post a b) own h may = tt
-receive_for setting port e (Took done buf) (Take b) own h may = absurd may
-receive_for setting port e (Took done buf) (Give b outcome parcel) own h may = tt
-receive_for setting port e (Took done buf) (Push r i) own h may = tt
-receive_for setting port e (Took done buf) (Pop r i) own h may = absurd may
-receive_for setting port e (Took done buf) (Split a) own h may = absurd may
-receive_for setting port e (Took done buf) (Join a) own h may = absurd may
-receive_for setting port e (Took done buf) (Full r) own h may = h
-receive_for setting port e (Took done buf) (Empty a) own h may = absurd may
-receive_for setting port e (Took done buf) (Look w v t) own h may = absurd may
-receive_for setting port e (Took done buf) (Post a b) own h may = absurd may
-receive_for setting port e (Barred done buf ring) (Take b) own h may = absurd may
-receive_for setting port e (Barred done buf ring) (Give b outcome parcel) own h may = tt
-receive_for setting port e (Barred done buf ring) (Push r i) own h may = absurd may
-receive_for setting port e (Barred done buf ring) (Pop r i) own h may = absurd may
-receive_for setting port e (Barred done buf ring) (Split a) own h may = absurd may
-receive_for setting port e (Barred done buf ring) (Join a) own h may = absurd may
-receive_for setting port e (Barred done buf ring) (Full r) own h may = absurd may
-receive_for setting port e (Barred done buf ring) (Empty a) own h may = absurd may
-receive_for setting port e (Barred done buf ring) (Look w v t) own h may = absurd may
-receive_for setting port e (Barred done buf ring) (Post a b) own h may = absurd may
+receive_for setting port e phase act own h (AsksFirst done f v t may) = asked_free setting port done 0 t own
+receive_for setting port e phase act own h (AsksOn done k w v t may) = asked_free setting port done k t own
+receive_for setting port e phase act own h (SeeksOn done k w v t may) = sought_free port done k v t own
+receive_for setting port e phase act own h (Takes done index seen b may) = refl
+receive_for setting port e phase act own h (Enters done buf ring b parcel may) = tt
+receive_for setting port e phase act own h (FindsFull done buf ring may) = h
+receive_for setting port e phase act own h (Leaves done buf b q parcel may) = tt
+receive_for setting port e phase act own h (GivesBack done buf ring b outcome parcel may) = tt
 
 receive_mark : (setting : Setting) (port : ℕ) (phase : ReceivePhase) (act : Act) (own after : Option (ℕ × Load))
     → IsBetween phase
@@ -153,7 +110,7 @@ receive_has setting port (act ∷ before) h =
           (own_load setting port (act ∷ before)) mark.0
       | inr block ↦
           receive_for setting port block.0 (receive_phase setting before) act (own_load setting port before)
-          (receive_has setting port before h.1) block.2
+          (receive_has setting port before h.1) (in_block setting port block.0 (receive_phase setting before) act block.2)
     ]
 
 -- Cores
@@ -265,81 +222,19 @@ fresh_carries setting port done buf own e b parcel numbered found h one two = (
 
 receive_lets : (setting : Setting) (port : ℕ) (e : Entry) (phase : ReceivePhase) (act : Act) (own : Option (ℕ × Load))
     → IsNumbered setting → frame_after setting port (done_in phase) ≡ Some e → HasTaken port own phase
-    → MayReceiveFor setting port e phase act
+    → InBlock setting port e phase act
     → LetsGo own act
-receive_lets setting port e (Between done) (Take b) own numbered found h may = tt
-receive_lets setting port e (Between done) (Give b outcome parcel) own numbered found h may = absurd may
-receive_lets setting port e (Between done) (Push r (Buffer b parcel)) own numbered found h may = absurd may
-receive_lets setting port e (Between done) (Push r (Number n)) own numbered found h may = tt
-receive_lets setting port e (Between done) (Pop r i) own numbered found h may = tt
-receive_lets setting port e (Between done) (Split a) own numbered found h may = tt
-receive_lets setting port e (Between done) (Join a) own numbered found h may = tt
-receive_lets setting port e (Between done) (Full r) own numbered found h may = tt
-receive_lets setting port e (Between done) (Empty a) own numbered found h may = tt
-receive_lets setting port e (Between done) (Look w v t) own numbered found h may = tt
-receive_lets setting port e (Between done) (Post a b) own numbered found h may = tt
-receive_lets setting port e (Asks done k) (Take b) own numbered found h may = tt
-receive_lets setting port e (Asks done k) (Give b outcome parcel) own numbered found h may = absurd may
-receive_lets setting port e (Asks done k) (Push r (Buffer b parcel)) own numbered found h may = absurd may
-receive_lets setting port e (Asks done k) (Push r (Number n)) own numbered found h may = tt
-receive_lets setting port e (Asks done k) (Pop r i) own numbered found h may = tt
-receive_lets setting port e (Asks done k) (Split a) own numbered found h may = tt
-receive_lets setting port e (Asks done k) (Join a) own numbered found h may = tt
-receive_lets setting port e (Asks done k) (Full r) own numbered found h may = tt
-receive_lets setting port e (Asks done k) (Empty a) own numbered found h may = tt
-receive_lets setting port e (Asks done k) (Look w v t) own numbered found h may = tt
-receive_lets setting port e (Asks done k) (Post a b) own numbered found h may = tt
-receive_lets setting port e (Seeks done k) (Take b) own numbered found h may = tt
-receive_lets setting port e (Seeks done k) (Give b outcome parcel) own numbered found h may = absurd may
-receive_lets setting port e (Seeks done k) (Push r (Buffer b parcel)) own numbered found h may = absurd may
-receive_lets setting port e (Seeks done k) (Push r (Number n)) own numbered found h may = tt
-receive_lets setting port e (Seeks done k) (Pop r i) own numbered found h may = tt
-receive_lets setting port e (Seeks done k) (Split a) own numbered found h may = tt
-receive_lets setting port e (Seeks done k) (Join a) own numbered found h may = tt
-receive_lets setting port e (Seeks done k) (Full r) own numbered found h may = tt
-receive_lets setting port e (Seeks done k) (Empty a) own numbered found h may = tt
-receive_lets setting port e (Seeks done k) (Look w v t) own numbered found h may = tt
-receive_lets setting port e (Seeks done k) (Post a b) own numbered found h may = tt
-receive_lets setting port e (Sees done index seen) (Take b) own numbered found h may = tt
-receive_lets setting port e (Sees done index seen) (Give b outcome parcel) own numbered found h may = absurd may
-receive_lets setting port e (Sees done index seen) (Push r (Buffer b parcel)) own numbered found h may = absurd may
-receive_lets setting port e (Sees done index seen) (Push r (Number n)) own numbered found h may = tt
-receive_lets setting port e (Sees done index seen) (Pop r i) own numbered found h may = tt
-receive_lets setting port e (Sees done index seen) (Split a) own numbered found h may = tt
-receive_lets setting port e (Sees done index seen) (Join a) own numbered found h may = tt
-receive_lets setting port e (Sees done index seen) (Full r) own numbered found h may = tt
-receive_lets setting port e (Sees done index seen) (Empty a) own numbered found h may = tt
-receive_lets setting port e (Sees done index seen) (Look w v t) own numbered found h may = tt
-receive_lets setting port e (Sees done index seen) (Post a b) own numbered found h may = tt
-receive_lets setting port e (Took done buf) (Take b) own numbered found h may = tt
-receive_lets setting port e (Took done buf) (Give b (Sent q) parcel) own numbered found h may =
+receive_lets setting port e phase act own numbered found h (AsksFirst done f v t may) = tt
+receive_lets setting port e phase act own numbered found h (AsksOn done k w v t may) = tt
+receive_lets setting port e phase act own numbered found h (SeeksOn done k w v t may) = tt
+receive_lets setting port e phase act own numbered found h (Takes done index seen b may) = tt
+receive_lets setting port e phase act own numbered found h (FindsFull done buf ring may) = tt
+receive_lets setting port e phase act own numbered found h (Enters done buf ring b parcel may) = 
     fresh_carries setting port done buf own e b parcel numbered found h may.0 may.1
-receive_lets setting port e (Took done buf) (Give b (Dropped f w) parcel) own numbered found h may = absurd may
-receive_lets setting port e (Took done buf) (Give b (Throttled a c d) parcel) own numbered found h may = absurd may
-receive_lets setting port e (Took done buf) (Give b (RingFull r) parcel) own numbered found h may = absurd may
-receive_lets setting port e (Took done buf) (Give b (PoolEmpty) parcel) own numbered found h may = absurd may
-receive_lets setting port e (Took done buf) (Push r (Buffer b parcel)) own numbered found h may =
+receive_lets setting port e phase act own numbered found h (Leaves done buf b q parcel may) = 
     fresh_carries setting port done buf own e b parcel numbered found h may.0 may.1
-receive_lets setting port e (Took done buf) (Push r (Number n)) own numbered found h may = tt
-receive_lets setting port e (Took done buf) (Pop r i) own numbered found h may = tt
-receive_lets setting port e (Took done buf) (Split a) own numbered found h may = tt
-receive_lets setting port e (Took done buf) (Join a) own numbered found h may = tt
-receive_lets setting port e (Took done buf) (Full r) own numbered found h may = tt
-receive_lets setting port e (Took done buf) (Empty a) own numbered found h may = tt
-receive_lets setting port e (Took done buf) (Look w v t) own numbered found h may = tt
-receive_lets setting port e (Took done buf) (Post a b) own numbered found h may = tt
-receive_lets setting port e (Barred done buf ring) (Take b) own numbered found h may = tt
-receive_lets setting port e (Barred done buf ring) (Give b outcome parcel) own numbered found h may =
+receive_lets setting port e phase act own numbered found h (GivesBack done buf ring b outcome parcel may) = 
     fresh_carries setting port done buf own e b parcel numbered found h may.0 may.2
-receive_lets setting port e (Barred done buf ring) (Push r (Buffer b parcel)) own numbered found h may = absurd may
-receive_lets setting port e (Barred done buf ring) (Push r (Number n)) own numbered found h may = tt
-receive_lets setting port e (Barred done buf ring) (Pop r i) own numbered found h may = tt
-receive_lets setting port e (Barred done buf ring) (Split a) own numbered found h may = tt
-receive_lets setting port e (Barred done buf ring) (Join a) own numbered found h may = tt
-receive_lets setting port e (Barred done buf ring) (Full r) own numbered found h may = tt
-receive_lets setting port e (Barred done buf ring) (Empty a) own numbered found h may = tt
-receive_lets setting port e (Barred done buf ring) (Look w v t) own numbered found h may = tt
-receive_lets setting port e (Barred done buf ring) (Post a b) own numbered found h may = tt
 
 mark_lets : (setting : Setting) (feeder : ℕ) (act : Act) (own : Option (ℕ × Load)) → IsMark setting feeder act
     → LetsGo own act
@@ -459,7 +354,7 @@ by_kind setting role Receives log act numbered h =
       | inl mark ↦ mark_lets setting role act (own_load setting role log) mark.1
       | inr block ↦
           receive_lets setting role block.0 (receive_phase setting log) act (own_load setting role log) numbered block.1
-          (receive_has setting role log h.1) block.2
+          (receive_has setting role log h.1) (in_block setting role block.0 (receive_phase setting log) act block.2)
     ]
 by_kind setting role Sends log act numbered h =
     send_lets setting role (send_phase log) act (own_load setting role log) (send_has setting role log h.1) h.0

@@ -27,3 +27,4 @@ pub mod Throttling
 pub mod Traces
 pub mod Walk
 pub mod WalkLogs
+pub mod InBlock

@@ -7,7 +7,7 @@ use Rattle.onvm_core.specs.declared.step.Item.TheVariants.{Buffer, Number}
 use Rattle.onvm_core.specs.declared.step.Act.{Act}
 use Rattle.onvm_core.specs.declared.step.Act.TheVariants.{Split, Join, Take, Give, Push, Full, Pop, Empty, Look, Post}
 use Rattle.onvm_core.specs.Logs.{Setting, Log, Hand, feeders}
-use Rattle.onvm_core.specs.Receiving.{ReceivePhase, asked, sought, receive_after, receive_phase, done_in, IsBetween, IsMark, MayReceiveFor}
+use Rattle.onvm_core.specs.Receiving.{ReceivePhase, asked, sought, receive_after, receive_phase, done_in, IsBetween, IsMark}
 use Rattle.onvm_core.specs.Handling.{core_hand, handles, MayHandle}
 use Rattle.onvm_core.specs.Sending.{SendPhase, send_after, send_phase, MaySend}
 use Rattle.onvm_core.specs.Blocks.{Kind, MayTick, MayLead}
@@ -22,6 +22,8 @@ use Rattle.onvm_core.specs.Blocks.Kind.{Receives, Sends, Handles, Ticks, Leads}
 use Rattle.onvm_core.specs.Frames.Load.{Fresh, Loaded}
 use Rattle.onvm_core.proofs.Loads.{own_load, own_load_after}
 use Rattle.onvm_core.proofs.Hands.{IsKind}
+use Rattle.onvm_core.proofs.InBlock.{InBlock, in_block}
+use Rattle.onvm_core.proofs.InBlock.InBlock.{AsksFirst, AsksOn, SeeksOn, Takes, Enters, FindsFull, Leaves, GivesBack}
 
 -- what a receive role has in a phase
 abbrev pub taken_in : ℕ → ReceivePhase → Option (ℕ × Load)
@@ -64,85 +66,17 @@ sought_none port done k seen None = elim (cases_Bool (seen == 0)) [ inl met ↦ 
 sought_none port done k seen (Some told) = refl
 
 receive_says : (setting : Setting) (port : ℕ) (e : Entry) (phase : ReceivePhase) (act : Act) (own : Option (ℕ × Load))
-    → own ≡ taken_in port phase → MayReceiveFor setting port e phase act
+    → own ≡ taken_in port phase → InBlock setting port e phase act
     → own_load_after (record { port = record { 0 = port }; number = done_in phase + 1 }) act own
     ≡ taken_in port (receive_after setting phase act)
-receive_says setting port e (Between done) (Take b) own h may = absurd may
-receive_says setting port e (Between done) (Give b outcome parcel) own h may = absurd may
-receive_says setting port e (Between done) (Push r (Buffer b parcel)) own h may = absurd may
-receive_says setting port e (Between done) (Push r (Number n)) own h may = absurd may
-receive_says setting port e (Between done) (Pop r (Buffer b parcel)) own h may = absurd may
-receive_says setting port e (Between done) (Pop r (Number n)) own h may = absurd may
-receive_says setting port e (Between done) (Split a) own h may = absurd may
-receive_says setting port e (Between done) (Join a) own h may = absurd may
-receive_says setting port e (Between done) (Full r) own h may = absurd may
-receive_says setting port e (Between done) (Empty a) own h may = absurd may
-receive_says setting port e (Between done) (Look (PostWord f) v t) own h may =
-    h ∙ sym (asked_none setting port done 0 t)
-receive_says setting port e (Between done) (Look (PoolWord f g) v t) own h may = h
-receive_says setting port e (Between done) (Look (Cell f g) v t) own h may = h
-receive_says setting port e (Between done) (Look (Weight f) v t) own h may = h
-receive_says setting port e (Between done) (Post a b) own h may = absurd may
-receive_says setting port e (Asks done k) (Take b) own h may = absurd may
-receive_says setting port e (Asks done k) (Give b outcome parcel) own h may = absurd may
-receive_says setting port e (Asks done k) (Push r (Buffer b parcel)) own h may = absurd may
-receive_says setting port e (Asks done k) (Push r (Number n)) own h may = absurd may
-receive_says setting port e (Asks done k) (Pop r (Buffer b parcel)) own h may = absurd may
-receive_says setting port e (Asks done k) (Pop r (Number n)) own h may = absurd may
-receive_says setting port e (Asks done k) (Split a) own h may = absurd may
-receive_says setting port e (Asks done k) (Join a) own h may = absurd may
-receive_says setting port e (Asks done k) (Full r) own h may = absurd may
-receive_says setting port e (Asks done k) (Empty a) own h may = absurd may
-receive_says setting port e (Asks done k) (Look w v t) own h may = h ∙ sym (asked_none setting port done k t)
-receive_says setting port e (Asks done k) (Post a b) own h may = absurd may
-receive_says setting port e (Seeks done k) (Take b) own h may = absurd may
-receive_says setting port e (Seeks done k) (Give b outcome parcel) own h may = absurd may
-receive_says setting port e (Seeks done k) (Push r (Buffer b parcel)) own h may = absurd may
-receive_says setting port e (Seeks done k) (Push r (Number n)) own h may = absurd may
-receive_says setting port e (Seeks done k) (Pop r (Buffer b parcel)) own h may = absurd may
-receive_says setting port e (Seeks done k) (Pop r (Number n)) own h may = absurd may
-receive_says setting port e (Seeks done k) (Split a) own h may = absurd may
-receive_says setting port e (Seeks done k) (Join a) own h may = absurd may
-receive_says setting port e (Seeks done k) (Full r) own h may = absurd may
-receive_says setting port e (Seeks done k) (Empty a) own h may = absurd may
-receive_says setting port e (Seeks done k) (Look w v t) own h may = h ∙ sym (sought_none port done k v t)
-receive_says setting port e (Seeks done k) (Post a b) own h may = absurd may
-receive_says setting port e (Sees done index seen) (Take b) own h may = refl
-receive_says setting port e (Sees done index seen) (Give b outcome parcel) own h may = absurd may
-receive_says setting port e (Sees done index seen) (Push r (Buffer b parcel)) own h may = absurd may
-receive_says setting port e (Sees done index seen) (Push r (Number n)) own h may = absurd may
-receive_says setting port e (Sees done index seen) (Pop r (Buffer b parcel)) own h may = absurd may
-receive_says setting port e (Sees done index seen) (Pop r (Number n)) own h may = absurd may
-receive_says setting port e (Sees done index seen) (Split a) own h may = absurd may
-receive_says setting port e (Sees done index seen) (Join a) own h may = absurd may
-receive_says setting port e (Sees done index seen) (Full r) own h may = absurd may
-receive_says setting port e (Sees done index seen) (Empty a) own h may = absurd may
-receive_says setting port e (Sees done index seen) (Look w v t) own h may = absurd may
-receive_says setting port e (Sees done index seen) (Post a b) own h may = absurd may
-receive_says setting port e (Took done buf) (Take b) own h may = absurd may
-receive_says setting port e (Took done buf) (Give b outcome parcel) own h may = refl
-receive_says setting port e (Took done buf) (Push r (Buffer b parcel)) own h may = refl
-receive_says setting port e (Took done buf) (Push r (Number n)) own h may = absurd may
-receive_says setting port e (Took done buf) (Pop r (Buffer b parcel)) own h may = absurd may
-receive_says setting port e (Took done buf) (Pop r (Number n)) own h may = absurd may
-receive_says setting port e (Took done buf) (Split a) own h may = absurd may
-receive_says setting port e (Took done buf) (Join a) own h may = absurd may
-receive_says setting port e (Took done buf) (Full r) own h may = h
-receive_says setting port e (Took done buf) (Empty a) own h may = absurd may
-receive_says setting port e (Took done buf) (Look w v t) own h may = absurd may
-receive_says setting port e (Took done buf) (Post a b) own h may = absurd may
-receive_says setting port e (Barred done buf ring) (Take b) own h may = absurd may
-receive_says setting port e (Barred done buf ring) (Give b outcome parcel) own h may = refl
-receive_says setting port e (Barred done buf ring) (Push r (Buffer b parcel)) own h may = absurd may
-receive_says setting port e (Barred done buf ring) (Push r (Number n)) own h may = absurd may
-receive_says setting port e (Barred done buf ring) (Pop r (Buffer b parcel)) own h may = absurd may
-receive_says setting port e (Barred done buf ring) (Pop r (Number n)) own h may = absurd may
-receive_says setting port e (Barred done buf ring) (Split a) own h may = absurd may
-receive_says setting port e (Barred done buf ring) (Join a) own h may = absurd may
-receive_says setting port e (Barred done buf ring) (Full r) own h may = absurd may
-receive_says setting port e (Barred done buf ring) (Empty a) own h may = absurd may
-receive_says setting port e (Barred done buf ring) (Look w v t) own h may = absurd may
-receive_says setting port e (Barred done buf ring) (Post a b) own h may = absurd may
+receive_says setting port e phase act own h (AsksFirst done f v t may) = h ∙ sym (asked_none setting port done 0 t)
+receive_says setting port e phase act own h (AsksOn done k w v t may) = h ∙ sym (asked_none setting port done k t)
+receive_says setting port e phase act own h (SeeksOn done k w v t may) = h ∙ sym (sought_none port done k v t)
+receive_says setting port e phase act own h (Takes done index seen b may) = refl
+receive_says setting port e phase act own h (Enters done buf ring b parcel may) = refl
+receive_says setting port e phase act own h (FindsFull done buf ring may) = h
+receive_says setting port e phase act own h (Leaves done buf b q parcel may) = refl
+receive_says setting port e phase act own h (GivesBack done buf ring b outcome parcel may) = refl
 
 mark_says : (setting : Setting) (port : ℕ) (phase : ReceivePhase) (act : Act) (fresh : FrameId)
     (own : Option (ℕ × Load)) → own ≡ taken_in port phase → IsBetween phase → IsMark setting port act
@@ -292,7 +226,7 @@ own_says setting role Receives (act ∷ before) h =
           (own_load setting role before) (own_says setting role Receives before h.1) mark.0 mark.1
       | inr block ↦
           receive_says setting role block.0 (receive_phase setting before) act (own_load setting role before)
-          (own_says setting role Receives before h.1) block.2
+          (own_says setting role Receives before h.1) (in_block setting role block.0 (receive_phase setting before) act block.2)
     ]
 own_says setting role Sends (act ∷ before) h =
     send_says setting role (send_phase before) act (block_frame setting role before) (own_load setting role before)
@@ -315,80 +249,16 @@ IsFreeFor own (Pop r (Buffer b parcel)) = own ≡ None
 IsFreeFor own _ = Unit {0}
 
 receive_frees : (setting : Setting) (port : ℕ) (e : Entry) (phase : ReceivePhase) (act : Act) (own : Option (ℕ × Load))
-    → own ≡ taken_in port phase → MayReceiveFor setting port e phase act
+    → own ≡ taken_in port phase → InBlock setting port e phase act
     → IsFreeFor own act
-receive_frees setting port e (Between done) (Take b) own h may = absurd may
-receive_frees setting port e (Between done) (Give b outcome parcel) own h may = tt
-receive_frees setting port e (Between done) (Push r (Buffer b parcel)) own h may = tt
-receive_frees setting port e (Between done) (Push r (Number n)) own h may = tt
-receive_frees setting port e (Between done) (Pop r (Buffer b parcel)) own h may = absurd may
-receive_frees setting port e (Between done) (Pop r (Number n)) own h may = tt
-receive_frees setting port e (Between done) (Split a) own h may = tt
-receive_frees setting port e (Between done) (Join a) own h may = tt
-receive_frees setting port e (Between done) (Full r) own h may = tt
-receive_frees setting port e (Between done) (Empty a) own h may = tt
-receive_frees setting port e (Between done) (Look w v t) own h may = tt
-receive_frees setting port e (Between done) (Post a b) own h may = tt
-receive_frees setting port e (Asks done k) (Take b) own h may = absurd may
-receive_frees setting port e (Asks done k) (Give b outcome parcel) own h may = tt
-receive_frees setting port e (Asks done k) (Push r (Buffer b parcel)) own h may = tt
-receive_frees setting port e (Asks done k) (Push r (Number n)) own h may = tt
-receive_frees setting port e (Asks done k) (Pop r (Buffer b parcel)) own h may = absurd may
-receive_frees setting port e (Asks done k) (Pop r (Number n)) own h may = tt
-receive_frees setting port e (Asks done k) (Split a) own h may = tt
-receive_frees setting port e (Asks done k) (Join a) own h may = tt
-receive_frees setting port e (Asks done k) (Full r) own h may = tt
-receive_frees setting port e (Asks done k) (Empty a) own h may = tt
-receive_frees setting port e (Asks done k) (Look w v t) own h may = tt
-receive_frees setting port e (Asks done k) (Post a b) own h may = tt
-receive_frees setting port e (Seeks done k) (Take b) own h may = absurd may
-receive_frees setting port e (Seeks done k) (Give b outcome parcel) own h may = tt
-receive_frees setting port e (Seeks done k) (Push r (Buffer b parcel)) own h may = tt
-receive_frees setting port e (Seeks done k) (Push r (Number n)) own h may = tt
-receive_frees setting port e (Seeks done k) (Pop r (Buffer b parcel)) own h may = absurd may
-receive_frees setting port e (Seeks done k) (Pop r (Number n)) own h may = tt
-receive_frees setting port e (Seeks done k) (Split a) own h may = tt
-receive_frees setting port e (Seeks done k) (Join a) own h may = tt
-receive_frees setting port e (Seeks done k) (Full r) own h may = tt
-receive_frees setting port e (Seeks done k) (Empty a) own h may = tt
-receive_frees setting port e (Seeks done k) (Look w v t) own h may = tt
-receive_frees setting port e (Seeks done k) (Post a b) own h may = tt
-receive_frees setting port e (Sees done index seen) (Take b) own h may = h
-receive_frees setting port e (Sees done index seen) (Give b outcome parcel) own h may = tt
-receive_frees setting port e (Sees done index seen) (Push r (Buffer b parcel)) own h may = tt
-receive_frees setting port e (Sees done index seen) (Push r (Number n)) own h may = tt
-receive_frees setting port e (Sees done index seen) (Pop r (Buffer b parcel)) own h may = absurd may
-receive_frees setting port e (Sees done index seen) (Pop r (Number n)) own h may = tt
-receive_frees setting port e (Sees done index seen) (Split a) own h may = tt
-receive_frees setting port e (Sees done index seen) (Join a) own h may = tt
-receive_frees setting port e (Sees done index seen) (Full r) own h may = tt
-receive_frees setting port e (Sees done index seen) (Empty a) own h may = tt
-receive_frees setting port e (Sees done index seen) (Look w v t) own h may = tt
-receive_frees setting port e (Sees done index seen) (Post a b) own h may = tt
-receive_frees setting port e (Took done buf) (Take b) own h may = absurd may
-receive_frees setting port e (Took done buf) (Give b outcome parcel) own h may = tt
-receive_frees setting port e (Took done buf) (Push r (Buffer b parcel)) own h may = tt
-receive_frees setting port e (Took done buf) (Push r (Number n)) own h may = tt
-receive_frees setting port e (Took done buf) (Pop r (Buffer b parcel)) own h may = absurd may
-receive_frees setting port e (Took done buf) (Pop r (Number n)) own h may = tt
-receive_frees setting port e (Took done buf) (Split a) own h may = tt
-receive_frees setting port e (Took done buf) (Join a) own h may = tt
-receive_frees setting port e (Took done buf) (Full r) own h may = tt
-receive_frees setting port e (Took done buf) (Empty a) own h may = tt
-receive_frees setting port e (Took done buf) (Look w v t) own h may = tt
-receive_frees setting port e (Took done buf) (Post a b) own h may = tt
-receive_frees setting port e (Barred done buf ring) (Take b) own h may = absurd may
-receive_frees setting port e (Barred done buf ring) (Give b outcome parcel) own h may = tt
-receive_frees setting port e (Barred done buf ring) (Push r (Buffer b parcel)) own h may = tt
-receive_frees setting port e (Barred done buf ring) (Push r (Number n)) own h may = tt
-receive_frees setting port e (Barred done buf ring) (Pop r (Buffer b parcel)) own h may = absurd may
-receive_frees setting port e (Barred done buf ring) (Pop r (Number n)) own h may = tt
-receive_frees setting port e (Barred done buf ring) (Split a) own h may = tt
-receive_frees setting port e (Barred done buf ring) (Join a) own h may = tt
-receive_frees setting port e (Barred done buf ring) (Full r) own h may = tt
-receive_frees setting port e (Barred done buf ring) (Empty a) own h may = tt
-receive_frees setting port e (Barred done buf ring) (Look w v t) own h may = tt
-receive_frees setting port e (Barred done buf ring) (Post a b) own h may = tt
+receive_frees setting port e phase act own h (Takes done index seen b may) = h
+receive_frees setting port e phase act own h (AsksFirst done f v t may) = tt
+receive_frees setting port e phase act own h (AsksOn done k w v t may) = tt
+receive_frees setting port e phase act own h (SeeksOn done k w v t may) = tt
+receive_frees setting port e phase act own h (Enters done buf ring b parcel may) = tt
+receive_frees setting port e phase act own h (FindsFull done buf ring may) = tt
+receive_frees setting port e phase act own h (Leaves done buf b q parcel may) = tt
+receive_frees setting port e phase act own h (GivesBack done buf ring b outcome parcel may) = tt
 
 mark_frees : (setting : Setting) (feeder : ℕ) (act : Act) (own : Option (ℕ × Load)) → IsMark setting feeder act
     → IsFreeFor own act
@@ -503,7 +373,7 @@ frees_of setting role Receives log act h =
       | inl mark ↦ mark_frees setting role act (own_load setting role log) mark.1
       | inr block ↦
           receive_frees setting role block.0 (receive_phase setting log) act (own_load setting role log)
-          (own_says setting role Receives log h.1) block.2
+          (own_says setting role Receives log h.1) (in_block setting role block.0 (receive_phase setting log) act block.2)
     ]
 frees_of setting role Sends log act h =
     send_frees setting role (send_phase log) act (own_load setting role log) (own_says setting role Sends log h.1) h.0
