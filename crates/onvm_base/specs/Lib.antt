@@ -1,3 +1,4 @@
+pub mod Lending
 pub mod Moves
 pub mod Plan
 pub mod Services

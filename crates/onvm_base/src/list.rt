@@ -1,5 +1,8 @@
 //! Lists over a `Vec`, which contracts see as lists.
+ghost use Rattle.std.specs.Borrow.{sem};
+ghost use Rattle.std.specs.List.Sorted.{IsPermutation, IsSortedByKeyClosure, IsStableByKeyClosure};
 ghost use Rattle.std.specs.Prelude.{◌≡◌, ◌<◌, [], ◌∷◌, ◌++◌, length, slice_get, option_copied, option_to_list, IsTrue, ◌↔◌, IfNone, IfOk, OnOk, OnErr};
+ghost use Rattle.onvm_base.specs.Lending.{lends_items};
 
 use crate::refusal::NoMemory;
 use std::alloc::Global;
@@ -78,11 +81,33 @@ impl<T> ListOf<T> {
         self.items.pop()
     }
 
-    /// Makes room: after an Ok the next `additional` pushes are not refused.
-    pub fn reserve(&mut self, additional: usize) -> Result<(), NoMemory>
-        ensures { self.new ≡ self.old }
+    /// The items in a `Vec` of their own. It takes no memory.
+    pub fn into_vec(self) -> Vec<T>
+        ensures { result.items ≡ self }
     {
-        self.items.reserve(additional)?;
+        self.items
+    }
+
+    /// The items, to be changed in place.
+    pub fn as_mut_slice(&mut self) -> &mut [T]
+        ensures* writes_back { sem 𝓛 (lends_items T.row self.entry result) }
+        ensures value { result.now ≡ self.old }
+    {
+        self.items.as_mut_slice()
+    }
+
+    /// Puts the items in the order of their keys; those of one key keep their order. It takes memory
+    /// for more than 20 items, and a refused one leaves the list as it was.
+    pub fn sort_by_key<K: Ord, F: FnMut(&T) -> K>(&mut self, key: F) -> Result<(), NoMemory>
+    where
+        K: Drop,
+        requires { F.IsAlwaysCallable key }
+        ensures permutation { IsPermutation self.old self.new }
+        ensures sorted { OnOk result (IsSortedByKeyClosure F.FnMut K.cmp key self.new) }
+        ensures stable { IsStableByKeyClosure F.FnMut K.cmp key self.old self.new }
+        ensures err { OnErr result (self.new ≡ self.old) }
+    {
+        self.items.sort_by_key(key)?;
         Ok(())
     }
 }

@@ -17,15 +17,19 @@ fn a_packet_grows_and_shrinks_in_its_middle(rt: HostRuntime) -> Result<(), Fail>
 }
 
 #[test]
-fn room_that_was_made_takes_as_many_items(rt: HostRuntime) -> Result<(), Fail> {
-    let mut list = ListOf::from_slice(rt.alloc(), &[4u8])?;
-    list.reserve(2)?;
-    for item in [5, 6] {
-        list.push(item)?;
-    }
-    assert_eq!(rt; list.as_slice(), [4, 5, 6].as_slice());
-    assert_eq!(rt; list.pop(), Some(6));
-    assert_eq!(rt; list.get(1), Some(&5));
-    assert_eq!(rt; list.get(2), None);
+fn a_list_is_changed_in_place_and_sorted(rt: HostRuntime) -> Result<(), Fail> {
+    let mut list = ListOf::from_slice(rt.alloc(), &[(2u8, 4u8), (1, 5), (2, 3)])?;
+    list.push((0, 9))?;
+    list.as_mut_slice()[3] = (1, 1);
+    list.sort_by_key(|item| item.0)?;
+    assert_eq!(rt;
+        list.as_slice(),
+        [(1, 5), (1, 1), (2, 4), (2, 3)].as_slice()
+    );
+    assert_eq!(rt; list.pop(), Some((2, 3)));
+    assert_eq!(rt; list.get(1), Some(&(1, 1)));
+    assert_eq!(rt; list.get(3), None);
+    let items = list.into_vec();
+    assert_eq!(rt; items.as_slice(), [(1, 5), (1, 1), (2, 4)].as_slice());
     Ok(())
 }
