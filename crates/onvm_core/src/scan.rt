@@ -1,7 +1,7 @@
 //! What a list of steps, the oldest first, leaves.
 ghost use Rattle.std.specs.Prelude.{◌≡◌, length, reverse};
 ghost use Rattle.onvm_core.specs.Layouts.{same_ring, same_word};
-ghost use Rattle.onvm_core.specs.History.{is_split, latest_look, place_of, popped_from, post_count, posted_on, pushed_on, puts, split_after};
+ghost use Rattle.onvm_core.specs.History.{is_split, latest_look, place_of, popped_from, post_count, posted_on, pushed_on, place_by, split_after};
 
 use crate::layout::Word;
 use crate::place::Place;
@@ -35,8 +35,8 @@ pub fn same_word(one: Word, other: Word) -> bool
 }
 
 // Where a step puts the buffer, if it names it.
-fn puts(step: &Step, buf: BufId) -> Option<Place>
-    ensures { result ≡ puts buf.0 step.now.role step.now.act }
+fn place_by(step: &Step, buf: BufId) -> Option<Place>
+    ensures { result ≡ place_by buf.0 step.now.role step.now.act }
 {
     let (named, there) = match &step.act {
         Act::Take(b) => (b, Place::Role(step.role)),
@@ -54,7 +54,7 @@ pub fn place_of(steps: &[Step], buf: BufId) -> Place
 {
     let mut there = Place::Pool;
     for step in steps {
-        if let Some(next) = puts(step, buf) {
+        if let Some(next) = place_by(step, buf) {
             there = next;
         }
     }
@@ -129,7 +129,7 @@ pub fn post_count(steps: &[Step], word: Word) -> usize
 }
 
 // How many items were pushed on a ring, and how many were popped from it.
-pub fn moved(steps: &[Step], ring: RingId) -> (usize, usize)
+pub fn ring_counts(steps: &[Step], ring: RingId) -> (usize, usize)
     ensures pushed { result.0 ≡ length (pushed_on ring (reverse steps.now)) }
     ensures popped { result.1 ≡ length (popped_from ring (reverse steps.now)) }
 {
