@@ -30,7 +30,8 @@ use Rattle.onvm_core.proofs.Begun.{starts, own_begins, other_starts, kind_receiv
 
 -- Counts below n of two tests that agree but at one number
 
-same_counts : (f g : ℕ → Bool) (n : ℕ) → ((k : ℕ) → f k ≡ g k) → how_many f (numbers_below n) ≡ how_many g (numbers_below n)
+same_counts : (f g : ℕ → Bool) (n : ℕ) → ((k : ℕ) → f k ≡ g k)
+    → how_many f (numbers_below n) ≡ how_many g (numbers_below n)
 same_counts f g zero h = refl
 same_counts f g (suc n) h = rw (h n, same_counts f g n h) refl
 
@@ -268,7 +269,8 @@ begun_step setting frame step before numbered blocks =
                 ≡ one_if (nat_lt 0 frame.number && nat_le frame.number
                 (begun_count (receive_phase setting (step.act ∷ log_of step.role before))))
                 = rw known (ap (λ (l : Log).
-                one_if (nat_lt 0 frame.number && nat_le frame.number (begun_count (receive_phase setting l)))) log_now) in
+                one_if (nat_lt 0 frame.number && nat_le frame.number
+                (begun_count (receive_phase setting l)))) log_now) in
                 let was : one_if (has_begun setting frame before)
                 ≡ one_if (nat_lt 0 frame.number && nat_le frame.number
                 (begun_count (receive_phase setting (log_of step.role before))))
@@ -312,7 +314,8 @@ one_record_or_buffer setting frame [] numbered lawful blocks =
       | inr unknown ↦ rw (unknown, none_counted (setting.layout.ports * setting.layout.buffers)) refl
     ]
 one_record_or_buffer setting frame (step ∷ before) numbered lawful blocks =
-    let earlier : record_count frame before + buffer_count setting frame before ≡ one_if (has_begun setting frame before)
+    let earlier : record_count frame before + buffer_count setting frame before
+    ≡ one_if (has_begun setting frame before)
     = one_record_or_buffer setting frame before numbered lawful.1 (blocks_before setting step before blocks) in
     omega (
       arith,

@@ -67,7 +67,8 @@ receive_begins setting port e phase act frame numbered found (Takes done index s
 receive_begins setting port e phase act frame numbered found (Enters done buf ring b parcel may) = inl (refl, refl)
 receive_begins setting port e phase act frame numbered found (FindsFull done buf ring may) = inl (refl, refl)
 receive_begins setting port e phase act frame numbered found (Leaves done buf b q parcel may) = inl (refl, refl)
-receive_begins setting port e phase act frame numbered found (GivesBack done buf ring b outcome parcel may) = inl (refl, refl)
+receive_begins setting port e phase act frame numbered found (GivesBack done buf ring b outcome parcel may) =
+    inl (refl, refl)
 
 mark_starts : (setting : Setting) (feeder : ℕ) (act : Act) (fresh frame : FrameId) → IsMarkAct setting feeder act
     → starts fresh frame act ≡ 0
@@ -99,7 +100,8 @@ own_begins setting port log act frame numbered may =
             mark_begins setting port (receive_phase setting log) act mark.0 mark.1,
             mark_starts setting port act (block_frame setting port log) frame mark.1,
           )
-      | inr block ↦ receive_begins setting port block.0 (receive_phase setting log) act frame numbered block.1 (in_block setting port block.0 (receive_phase setting log) act block.2)
+      | inr block ↦ receive_begins setting port block.0 (receive_phase setting log) act frame numbered block.1
+          (in_block setting port block.0 (receive_phase setting log) act block.2)
     ]
 
 send_starts : (setting : Setting) (feeder : ℕ) (phase : SendPhase) (act : Act) (fresh frame : FrameId)

@@ -248,7 +248,8 @@ since_step f act was n earlier e = earlier e
 
 none_since : (f : FnId) (log : Log) → is_sampled f log ≡ true → unsampled_count f log ≡ 0
 none_since f [] e = refl
-none_since f (act ∷ before) e = since_step f act (is_sampled f before) (unsampled_count f before) (none_since f before) e
+none_since f (act ∷ before) e =
+    since_step f act (is_sampled f before) (unsampled_count f before) (none_since f before) e
 
 without_since : (mailed lost since all : ℕ) → mailed + lost + since ≡ all → since ≡ 0 → mailed + lost ≡ all
 without_since mailed lost since all e none = omega (arith, e, none)

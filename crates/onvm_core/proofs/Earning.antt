@@ -76,9 +76,12 @@ entered_full setting port e ring before enters =
 receive_so : (setting : Setting) (port : ℕ) (e : Entry) (phase : ReceivePhase) (act : Act) (before : Log)
     → EndsSo port before phase → InBlock setting port e phase act
     → EndsSo port (act ∷ before) (receive_after setting phase act)
-receive_so setting port e phase act before h (AsksFirst done f v t may) = asked_so setting port done 0 t (Look (PostWord f) v t ∷ before)
-receive_so setting port e phase act before h (AsksOn done k w v t may) = asked_so setting port done k t (Look w v t ∷ before)
-receive_so setting port e phase act before h (SeeksOn done k w v t may) = sought_so setting port done k v w e t before may h
+receive_so setting port e phase act before h (AsksFirst done f v t may) =
+    asked_so setting port done 0 t (Look (PostWord f) v t ∷ before)
+receive_so setting port e phase act before h (AsksOn done k w v t may) =
+    asked_so setting port done k t (Look w v t ∷ before)
+receive_so setting port e phase act before h (SeeksOn done k w v t may) =
+    sought_so setting port done k v w e t before may h
 receive_so setting port e phase act before h (Takes done index seen b may) = tt
 receive_so setting port e phase act before h (Enters done buf ring b parcel may) = tt
 receive_so setting port e phase act before h (FindsFull done buf ring may) = entered_full setting port e ring before may
@@ -98,7 +101,8 @@ receive_ends setting port (act ∷ before) kind =
       | inl mark ↦ mark_so setting port (receive_phase setting before) act (act ∷ before) mark.0
       | inr block ↦
           receive_so setting port block.0 (receive_phase setting before) act before
-          (receive_ends setting port before kind.1) (in_block setting port block.0 (receive_phase setting before) act block.2)
+          (receive_ends setting port before kind.1)
+          (in_block setting port block.0 (receive_phase setting before) act block.2)
     ]
 
 -- What the log of a transmit role ends with: the ring that was found full
@@ -194,7 +198,8 @@ abbrev pub LookTells : Setting → ℕ → Log → Word → ℕ → Record → T
 LookTells setting port log word seen told =
     (e : Entry) × (done : ℕ) × (entry_after setting port done ≡ Some e)
     × (((k : ℕ) × (word ≡ PostWord k) × IsThrottleRecord setting e k seen told)
-    ⊎ ((k : ℕ) × (word ≡ PoolWord (record { 0 = port }) k) × IsPoolEmptyRecord setting e k seen told × EndsWithLooks port k log))
+    ⊎ ((k : ℕ) × (word ≡ PoolWord
+    (record { 0 = port }) k) × IsPoolEmptyRecord setting e k seen told × EndsWithLooks port k log))
 
 receive_tells : (setting : Setting) (port : ℕ) (e : Entry) (phase : ReceivePhase) (word : Word) (seen : ℕ)
     (told : Record) (log : Log)
@@ -267,7 +272,8 @@ send_gives setting feeder (Sending hand) b (Dropped g w) parcel may = tt
 send_gives setting feeder (TurnsBack hand r) b outcome parcel may = full_gives r outcome may.1
 send_gives setting feeder phase b outcome parcel may = absurd may
 
-give_gives : (setting : Setting) (role : ℕ) (kind : RoleKind) (log : Log) (b : BufId) (outcome : Outcome) (parcel : Parcel)
+give_gives : (setting : Setting) (role : ℕ) (kind : RoleKind) (log : Log) (b : BufId) (outcome : Outcome)
+    (parcel : Parcel)
     → MayFollow setting role kind log (Give b outcome parcel)
     → Gives outcome
 give_gives setting role Receives log b outcome parcel may =

@@ -122,7 +122,8 @@ send_lighter setting feeder (Sending hand) own ring b parcel h may =
     )
 send_lighter setting feeder (TurnsBack hand r) own ring b parcel h may = absurd may
 
-lighter_by_kind : (setting : Setting) (role : ℕ) (kind : RoleKind) (log : Log) (ring : RingId) (b : BufId) (parcel : Parcel)
+lighter_by_kind : (setting : Setting) (role : ℕ) (kind : RoleKind) (log : Log) (ring : RingId) (b : BufId)
+    (parcel : Parcel)
     → length parcel.trail ≤ 32 → IsKind setting role kind (Push ring (Buffer b parcel) ∷ log)
     → Lighter setting.layout role (own_load setting role log) ring b parcel
 lighter_by_kind setting role Receives log ring b parcel short h =
@@ -197,7 +198,8 @@ buffers_step layout role fresh (Give b outcome parcel) places loads n facts =
     omega (
       arith,
       sum_falls (heavy_after layout role fresh (Give b outcome parcel) places loads)
-          (λ buf. load_potential layout (places buf) (loads buf)) n b.0 (λ k apart. rw (ne_eqb b.0 k (λ e. apart (sym e))) refl)
+          (λ buf. load_potential layout (places buf) (loads buf)) n b.0
+          (λ k apart. rw (ne_eqb b.0 k (λ e. apart (sym e))) refl)
           (omega (arith, now)),
     )
 buffers_step layout role fresh (Push r (Buffer b parcel)) places loads n facts =
@@ -207,7 +209,8 @@ buffers_step layout role fresh (Push r (Buffer b parcel)) places loads n facts =
     omega (
       arith,
       sum_falls (heavy_after layout role fresh (Push r (Buffer b parcel)) places loads)
-          (λ buf. load_potential layout (places buf) (loads buf)) n b.0 (λ k apart. rw (ne_eqb b.0 k (λ e. apart (sym e))) refl)
+          (λ buf. load_potential layout (places buf) (loads buf)) n b.0
+          (λ k apart. rw (ne_eqb b.0 k (λ e. apart (sym e))) refl)
           (omega (arith, now, facts)),
     )
 buffers_step layout role fresh (Pop r (Buffer b parcel)) places loads n facts =
@@ -217,7 +220,8 @@ buffers_step layout role fresh (Pop r (Buffer b parcel)) places loads n facts =
     omega (
       arith,
       sum_falls (heavy_after layout role fresh (Pop r (Buffer b parcel)) places loads)
-          (λ buf. load_potential layout (places buf) (loads buf)) n b.0 (λ k apart. rw (ne_eqb b.0 k (λ e. apart (sym e))) refl)
+          (λ buf. load_potential layout (places buf) (loads buf)) n b.0
+          (λ k apart. rw (ne_eqb b.0 k (λ e. apart (sym e))) refl)
           (omega (arith, now, facts)),
     )
 buffers_step layout role fresh (Push r (Number m)) places loads n facts =
@@ -235,25 +239,29 @@ buffers_step layout role fresh (Pop r (Number m)) places loads n facts =
 buffers_step layout role fresh (Split a) places loads n facts =
     omega (
       arith,
-      sum_same (heavy_after layout role fresh (Split a) places loads) (λ buf. load_potential layout (places buf) (loads buf)) n
+      sum_same (heavy_after layout role fresh (Split a) places loads)
+          (λ buf. load_potential layout (places buf) (loads buf)) n
           (λ k less. refl),
     )
 buffers_step layout role fresh (Join a) places loads n facts =
     omega (
       arith,
-      sum_same (heavy_after layout role fresh (Join a) places loads) (λ buf. load_potential layout (places buf) (loads buf)) n
+      sum_same (heavy_after layout role fresh (Join a) places loads)
+          (λ buf. load_potential layout (places buf) (loads buf)) n
           (λ k less. refl),
     )
 buffers_step layout role fresh (Full a) places loads n facts =
     omega (
       arith,
-      sum_same (heavy_after layout role fresh (Full a) places loads) (λ buf. load_potential layout (places buf) (loads buf)) n
+      sum_same (heavy_after layout role fresh (Full a) places loads)
+          (λ buf. load_potential layout (places buf) (loads buf)) n
           (λ k less. refl),
     )
 buffers_step layout role fresh (Empty a) places loads n facts =
     omega (
       arith,
-      sum_same (heavy_after layout role fresh (Empty a) places loads) (λ buf. load_potential layout (places buf) (loads buf)) n
+      sum_same (heavy_after layout role fresh (Empty a) places loads)
+          (λ buf. load_potential layout (places buf) (loads buf)) n
           (λ k less. refl),
     )
 buffers_step layout role fresh (Look x y z) places loads n facts =
@@ -422,7 +430,8 @@ waiting_step setting step before numbered blocks =
             arith,
             now,
             own_waits setting step.role (log_of step.role before) step.act numbered may,
-            sum_change (waiting_count setting (step ∷ before)) (waiting_count setting before) setting.layout.ports step.role less
+            sum_change (waiting_count setting (step ∷ before))
+                (waiting_count setting before) setting.layout.ports step.role less
                 (waiting_apart setting step before),
           )
       | inr unknown ↦
@@ -434,7 +443,8 @@ waiting_step setting step before numbered blocks =
             arith,
             none,
             sum_apart (waiting_count setting (step ∷ before))
-                (waiting_count setting before) setting.layout.ports step.role past_ports (waiting_apart setting step before),
+                (waiting_count setting before) setting.layout.ports step.role past_ports
+                (waiting_apart setting step before),
           )
     ]
 

@@ -114,7 +114,8 @@ by_place setting past lawful blocks =
     pick (same_place (place_of buf past) (Ring (Lane (record { 0 = f }) feeder))) (heft setting past buf))
     (λ f buf. pick (same_place (place_of buf past) (Ring (Output (record { 0 = f })))) (heft setting past buf))
     (λ role buf. pick (same_place (place_of buf past) (Role role)) (heft setting past buf))
-    setting.layout.functions (feeder_count setting) (setting.layout.ports + setting.layout.transmit + setting.layout.cores)
+    setting.layout.functions (feeder_count setting)
+    (setting.layout.ports + setting.layout.transmit + setting.layout.cores)
     (setting.layout.ports * setting.layout.buffers)
 
 function_weighs : (setting : Setting) (past : History) → IsLawful setting.layout past → (f : ℕ)
@@ -124,7 +125,8 @@ function_weighs : (setting : Setting) (past : History) → IsLawful setting.layo
 function_weighs setting past lawful f =
     ap (λ (s : ℕ). s + weight_there setting past (Ring (Output (record { 0 = f }))))
     (sum_same (λ feeder. weight_there setting past (Ring (Lane (record { 0 = f }) feeder)))
-    (λ feeder. ring_potential setting (λ role. log_of role past) (Lane (record { 0 = f }) feeder)) (feeder_count setting)
+    (λ feeder. ring_potential setting (λ role. log_of role past) (Lane (record { 0 = f }) feeder))
+    (feeder_count setting)
     (λ feeder less. ring_weighs setting past lawful (Lane (record { 0 = f }) feeder)))
     ∙ ap (λ (s : ℕ).
     sum_below (λ feeder. ring_potential setting (λ role. log_of role past) (Lane (record { 0 = f }) feeder))
@@ -162,9 +164,14 @@ buffers_weigh setting past lawful blocks =
 
 -- Frames outside
 
-asked_more : (setting : Setting) (done k : ℕ) (told : Option Record) → begun_count (phase_after_ask setting done k told) ≤ done + 1
+asked_more : (setting : Setting) (done k : ℕ) (told : Option Record)
+    → begun_count (phase_after_ask setting done k told) ≤ done + 1
 asked_more setting done k None =
-    elim (cases_Bool (k + 1 == feeder_count setting)) [ inl met ↦ rw met (omega arith) | inr unmet ↦ rw unmet (omega arith) ]
+    elim (cases_Bool (k + 1 == feeder_count setting)) [
+      | inl met ↦ rw met (omega arith)
+      | inr unmet ↦ rw unmet
+          (omega arith)
+    ]
 asked_more setting done k (Some told) = omega arith
 
 sought_more : (done k seen : ℕ) (told : Option Record) → begun_count (phase_after_seek done k seen told) ≤ done + 1
@@ -199,7 +206,8 @@ begun_within setting port (act ∷ before) h =
           omega (
             arith,
             begun_more setting (receive_phase setting before) act,
-            slice_get_within (entries_of_port port setting.entries) (done_count (receive_phase setting before)) block.0 block.1,
+            slice_get_within (entries_of_port port setting.entries)
+                (done_count (receive_phase setting before)) block.0 block.1,
           )
     ]
 
@@ -209,14 +217,16 @@ one_more_outside size (Between done) le = omega arith
 one_more_outside size phase le = omega arith
 
 port_outside : (setting : Setting) (past : History) (port : ℕ) → AllOfBlocks setting past → port < setting.layout.ports
-    → 66 * outside_count setting (λ role. log_of role past) port ≡ 66 * waiting_count setting past port + taken_of setting past port
+    → 66 * outside_count setting (λ role. log_of role past) port
+    ≡ 66 * waiting_count setting past port + taken_of setting past port
 port_outside setting past port blocks less =
     let receives : kind_of setting.layout port ≡ Receives =
     kind_receives setting.layout port (lt-ltb port setting.layout.ports less) in
     one_more_outside (length (entries_of_port port setting.entries)) (receive_phase setting (log_of port past))
     (begun_within setting port (log_of port past)
     (is_kind setting port (log_of port past) Receives receives (blocks port)))
-    ∙ ap (λ (kind : RoleKind). 66 * waiting_count setting past port + taken_by setting kind (log_of port past)) (sym receives)
+    ∙ ap (λ (kind : RoleKind). 66 * waiting_count setting past port + taken_by setting kind (log_of port past))
+    (sym receives)
 
 none_taken : (setting : Setting) (kind : RoleKind) (log : Log) → (kind ≡ Receives → ⊥) → taken_by setting kind log ≡ 0
 none_taken setting Receives log other = absurd (other refl)

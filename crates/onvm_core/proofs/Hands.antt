@@ -92,7 +92,8 @@ receive_has setting port (act ∷ before) h =
           (own_load setting port (act ∷ before)) mark.0
       | inr block ↦
           receive_for setting port block.0 (receive_phase setting before) act (own_load setting port before)
-          (receive_has setting port before h.1) (in_block setting port block.0 (receive_phase setting before) act block.2)
+          (receive_has setting port before h.1)
+          (in_block setting port block.0 (receive_phase setting before) act block.2)
     ]
 
 -- Cores

@@ -220,7 +220,8 @@ core_weighs layout role (Some hand) other = rw other (omega arith)
 
 kind_weighs : (setting : Setting) (role : ℕ) (kind : RoleKind) (log : Log)
     → (kind ≡ Sends → is_sender setting.layout role ≡ true) → (kind ≡ Handles → is_sender setting.layout role ≡ false)
-    → own_weight setting.layout role (held_in setting role kind log) ≡ taken_by setting kind log + hand_potential kind log
+    → own_weight setting.layout role (held_in setting role kind log)
+    ≡ taken_by setting kind log + hand_potential kind log
 kind_weighs setting role Receives log sends handles = receive_weighs setting.layout role (receive_phase setting log)
 kind_weighs setting role Sends log sends handles = send_weighs setting.layout role (send_phase log) (sends refl)
 kind_weighs setting role Handles log sends handles = core_weighs setting.layout role (core_hand log) (handles refl)

@@ -229,7 +229,8 @@ pub content_at : (layout : Layout) (past : History) → IsLawful layout past →
     → Each (IsAt ring past) (content_of ring past)
 content_at layout past lawful ring =
     counted_at ring past (content_of ring past) (λ buf h.
-    let once : how_many (is_of_buffer buf) (content_of ring past) ≡ one_if (same_place (place_of buf past) (Ring ring)) =
+    let once : how_many (is_of_buffer buf) (content_of ring past)
+    ≡ one_if (same_place (place_of buf past) (Ring ring)) =
     in_ring_once layout past lawful buf ring in
     same_place_is (place_of buf past) (Ring ring)
     (some_once (same_place (place_of buf past) (Ring ring)) (omega arith)))

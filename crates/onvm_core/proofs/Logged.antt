@@ -161,7 +161,8 @@ abbrev items_at : (ℕ → ℕ) → List Item → ℕ → ℕ
 items_at g [] buf = 0
 items_at g (item ∷ items) buf = pick (is_of_buffer buf item) (g buf) + items_at g items buf
 
-items_none : (g : ℕ → ℕ) (items : List Item) (buf : ℕ) → how_many (is_of_buffer buf) items ≡ 0 → items_at g items buf ≡ 0
+items_none : (g : ℕ → ℕ) (items : List Item) (buf : ℕ) → how_many (is_of_buffer buf) items ≡ 0
+    → items_at g items buf ≡ 0
 items_none g [] buf none = refl
 items_none g (item ∷ items) buf none =
     elim (cases_Bool (is_of_buffer buf item)) [

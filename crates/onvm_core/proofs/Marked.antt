@@ -64,14 +64,16 @@ not_late : (aged : Ages) (f : ℕ) (events : MarkEvents) → ArePaid aged events
     → ¬ (LAST_POST ≤ posts_so_far events)
 not_late aged f events are bit late = not_both (has_bit (last_post events) f) (late_bit aged f events are late) bit
 
-post_settles : (aged : Ages) (value : ℕ) (before : MarkEvents) → IsOwed aged before value → posts_so_far before + 1 < LAST_POST
+post_settles : (aged : Ages) (value : ℕ) (before : MarkEvents) → IsOwed aged before value
+    → posts_so_far before + 1 < LAST_POST
     → IsSettled aged (Posted value ∷ before)
 post_settles aged value before owed more f =
     owed.bits f
     ∙ if_unmet (posts_so_far before + 1 == LAST_POST) false (is_throttled aged f before)
     (ne_eqb (posts_so_far before + 1) LAST_POST (λ e. omega (arith, e, more)))
 
-post_pays : (aged : Ages) (value : ℕ) (before : MarkEvents) → IsOwed aged before value → IsPaid aged (Posted value ∷ before)
+post_pays : (aged : Ages) (value : ℕ) (before : MarkEvents) → IsOwed aged before value
+    → IsPaid aged (Posted value ∷ before)
 post_pays aged value before owed =
     elim (cases_Bool (posts_so_far before + 1 == LAST_POST)) [
       | inl met ↦ inr (omega (arith, eqb-true (posts_so_far before + 1) LAST_POST met))

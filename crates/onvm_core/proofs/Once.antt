@@ -167,7 +167,8 @@ pool_step buf role act bufs was moves e = e
 
 -- a ring gains the buffer where it is pushed, and loses it where it is popped
 ring_balance : (buf role : ℕ) (ring : RingId) (act : Act) (was : Place) → Moves buf role act was
-    → one_if (same_place (unwrap_or (place_by buf role act) was) (Ring ring)) + how_many (is_of_buffer buf) (pops ring act)
+    → one_if (same_place (unwrap_or (place_by buf role act) was) (Ring ring))
+    + how_many (is_of_buffer buf) (pops ring act)
     ≡ one_if (same_place was (Ring ring)) + how_many (is_of_buffer buf) (pushes ring act)
 ring_balance buf role ring (Take b) was moves =
     elim (cases_Bool (b.0 == buf)) [
@@ -287,10 +288,12 @@ hands_step : (buf : ℕ) (step : Step) (before : History) (other : ℕ)
 hands_step buf step before other moves e =
     elim (cases_Bool (step.role == other)) [
       | inl mine ↦ let same : step.role ≡ other = eqb-true step.role other mine in
-          let e_mine : times buf (held_buffers other before) ≡ one_if (same_place (place_of buf before) (Role step.role))
+          let e_mine : times buf (held_buffers other before)
+          ≡ one_if (same_place (place_of buf before) (Role step.role))
           = e ∙ ap (λ k. one_if (same_place (place_of buf before) (Role k))) (sym same) in
           rw mine (own_hands buf step.role step.act (held_buffers other before) (place_of buf before) moves e_mine
-          ∙ ap (λ k. one_if (same_place (unwrap_or (place_by buf step.role step.act) (place_of buf before)) (Role k))) same)
+          ∙ ap (λ k. one_if (same_place (unwrap_or (place_by buf step.role step.act) (place_of buf before))
+          (Role k))) same)
       | inr foreign ↦ rw foreign (e ∙ other_hands buf step.role other step.act (place_of buf before) foreign moves)
     ]
 

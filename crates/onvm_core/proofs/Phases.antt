@@ -154,7 +154,8 @@ own_says setting role Receives (act ∷ before) h =
           (own_load setting role before) (own_says setting role Receives before h.1) mark.0 mark.1
       | inr block ↦
           receive_says setting role block.0 (receive_phase setting before) act (own_load setting role before)
-          (own_says setting role Receives before h.1) (in_block setting role block.0 (receive_phase setting before) act block.2)
+          (own_says setting role Receives before h.1)
+          (in_block setting role block.0 (receive_phase setting before) act block.2)
     ]
 own_says setting role Sends (act ∷ before) h =
     send_says setting role (send_phase before) act (block_frame setting role before) (own_load setting role before)
@@ -243,7 +244,8 @@ frees_of setting role Receives log act h =
       | inl mark ↦ mark_frees setting role act (own_load setting role log) mark.1
       | inr block ↦
           receive_frees setting role block.0 (receive_phase setting log) act (own_load setting role log)
-          (own_says setting role Receives log h.1) (in_block setting role block.0 (receive_phase setting log) act block.2)
+          (own_says setting role Receives log h.1)
+          (in_block setting role block.0 (receive_phase setting log) act block.2)
     ]
 frees_of setting role Sends log act h =
     send_frees setting role (send_phase log) act (own_load setting role log) (own_says setting role Sends log h.1) h.0

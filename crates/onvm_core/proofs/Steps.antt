@@ -82,7 +82,8 @@ enters live ring own_end room known holder short =
 pub leaves : {layout : Layout} {before : History} {role : ℕ} {f : FnId} {b : BufId} {parcel : Parcel}
     → is_live layout role before ≡ true → IsRing layout (Output f) → role ≡ producer layout (Output f)
     → length (content_of (Output f) before) < ring_size layout (Output f)
-    → IsBuffer layout b.0 → place_of b.0 before ≡ Role role → (1 ≤ length parcel.trail) × (length parcel.trail ≤ MAX_HOPS)
+    → IsBuffer layout b.0 → place_of b.0 before ≡ Role role
+    → (1 ≤ length parcel.trail) × (length parcel.trail ≤ MAX_HOPS)
     → Allows layout before (by role (Push (Output f) (Buffer b parcel)))
 leaves live ring own_end room known holder handled =
     record {

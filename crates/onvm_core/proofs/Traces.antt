@@ -223,7 +223,8 @@ verdict_added trail before crumb e =
 handled_traced : (setting : Setting) (step : Step) (before : History) (f : FnId) (hand : Hand) (b : BufId)
     (parcel : Parcel) (n : ℕ)
     → step.act ≡ Push (Output f) (Buffer b parcel) → step.role ≡ core_role setting.layout f.0
-    → last_popped_parcel b.0 (log_of step.role before) ≡ Some hand.parcel → length (journal f (log_of step.role before)) ≡ n
+    → last_popped_parcel b.0 (log_of step.role before) ≡ Some hand.parcel
+    → length (journal f (log_of step.role before)) ≡ n
     → IsHandled f n hand.parcel parcel → IsTraced setting before hand.parcel
     → IsTraced setting (step ∷ before) parcel
 handled_traced setting step before f hand b parcel n acts role has long handled traced =
@@ -268,7 +269,8 @@ entered_traced setting past parcel enters = record {
 -- the place of an entry that a short journal gets fits a crumb
 entry_fits : (setting : Setting) (step : Step) (before : History) (f : FnId) (b : BufId) (parcel was : Parcel)
     → step.act ≡ Push (Output f) (Buffer b parcel) → step.role ≡ core_role setting.layout f.0
-    → last_popped_parcel b.0 (log_of step.role before) ≡ Some was → length (journal_of setting (step ∷ before) f) ≤ 4294967296
+    → last_popped_parcel b.0 (log_of step.role before) ≡ Some was
+    → length (journal_of setting (step ∷ before) f) ≤ 4294967296
     → length (journal f (log_of step.role before)) ≡ push_count (Output f) (log_of step.role before)
     → push_count (Output f) (log_of step.role before) ≤ 4294967295
 entry_fits setting step before f b parcel was acts role has few long =
@@ -439,7 +441,8 @@ given_send setting feeder (TurnsBack hand r) own b outcome parcel h may =
     was_moved own hand b parcel (with_cursor may.2.0 hand.parcel) h may.0 may.2.2 refl refl refl
 given_send setting feeder phase own b outcome parcel h may = absurd may
 
-given_from : (setting : Setting) (role : ℕ) (kind : RoleKind) (log : Log) (b : BufId) (outcome : Outcome) (parcel : Parcel)
+given_from : (setting : Setting) (role : ℕ) (kind : RoleKind) (log : Log) (b : BufId) (outcome : Outcome)
+    (parcel : Parcel)
     → IsKind setting role kind (Give b outcome parcel ∷ log)
     → Enters setting parcel ⊎ Moved (own_load setting role log) b parcel
 given_from setting role Receives log b outcome parcel h =

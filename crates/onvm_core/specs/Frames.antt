@@ -25,7 +25,8 @@ frame_of (Loaded parcel) = parcel.frame
 
 -- the frame of the block that a receive role is in
 abbrev pub block_frame : Setting → ℕ → Log → FrameId
-block_frame setting port log = record { port = record { 0 = port }; number = done_count (receive_phase setting log) + 1 }
+block_frame setting port log =
+    record { port = record { 0 = port }; number = done_count (receive_phase setting log) + 1 }
 
 abbrev pub load_of : ℕ → Item → Option Load → Option Load
 load_of buf (Buffer b parcel) was = if b.0 == buf then Some (Loaded parcel) else was

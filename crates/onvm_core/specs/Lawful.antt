@@ -73,7 +73,8 @@ pub record AllowsGive (layout : Layout) (before : History) (role buf : ℕ) (out
 -- the item is of the ring's kind and the role's to push: a buffer that it holds, with a parcel that may be handled once
 -- more on a lane, and was handled on an output ring; or on a mail ring a number
 abbrev pub Suits : Layout → History → ℕ → RingId → Item → Type 0
-Suits layout past role (Lane f feeder) (Buffer buf parcel) = Holds layout past role buf.0 × (length parcel.trail < MAX_HOPS)
+Suits layout past role (Lane f feeder) (Buffer buf parcel) =
+    Holds layout past role buf.0 × (length parcel.trail < MAX_HOPS)
 Suits layout past role (Output f) (Buffer buf parcel) =
     Holds layout past role buf.0 × (1 ≤ length parcel.trail) × (length parcel.trail ≤ MAX_HOPS)
 Suits layout past role (Mail f) (Number n) = Unit {0}

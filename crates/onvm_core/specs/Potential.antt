@@ -53,7 +53,8 @@ load_potential layout there (Some (Loaded parcel)) = place_potential layout ther
 
 -- how many frames of a port have neither a take nor a record
 abbrev pub waiting_count : Setting → History → ℕ → ℕ
-waiting_count setting past port = length (entries_of_port port setting.entries) - begun_count (receive_phase setting (log_of port past))
+waiting_count setting past port =
+    length (entries_of_port port setting.entries) - begun_count (receive_phase setting (log_of port past))
 
 abbrev pub potential : Setting → History → ℕ
 potential setting past =
@@ -65,7 +66,8 @@ potential setting past =
 
 -- how many frames of a port have neither entered nor a record
 abbrev pub outside_count : Setting → (ℕ → Log) → ℕ → ℕ
-outside_count setting logs port = length (entries_of_port port setting.entries) - done_count (receive_phase setting (logs port))
+outside_count setting logs port =
+    length (entries_of_port port setting.entries) - done_count (receive_phase setting (logs port))
 
 abbrev pub pushed_in : RingId → Log → List Item
 pushed_in ring [] = []
