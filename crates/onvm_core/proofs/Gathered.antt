@@ -169,8 +169,7 @@ asked_more : (setting : Setting) (done k : ℕ) (told : Option Record)
 asked_more setting done k None =
     elim (cases_Bool (k + 1 == feeder_count setting)) [
       | inl met ↦ rw met (omega arith)
-      | inr unmet ↦ rw unmet
-          (omega arith)
+      | inr unmet ↦ rw unmet (omega arith)
     ]
 asked_more setting done k (Some told) = omega arith
 
