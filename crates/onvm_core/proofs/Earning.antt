@@ -1,9 +1,9 @@
 -- Each overflow is earned, and each drop and send is the move's.
-use Rattle.std.proofs.Common.{◌≡◌, ℕ, ◌+◌, zero, suc, add-one, ◌⊎◌, inl, inr, List, [], ◌∷◌, refl, sym, ◌∙◌, ap, subst, Option, Some, None}
+use Rattle.std.proofs.Common.{◌≡◌, ℕ, zero, suc, ◌⊎◌, inl, inr, List, [], ◌∷◌, refl, sym, ◌∙◌, ap, subst, Option, Some, None}
 use Rattle.std.specs.Prelude.{slice_get, ◌==◌, ◌^◌, ◌/◌}
 use Rattle.std.proofs.lemmas.Bool.{cases_Bool, eqb-true}
 use Rattle.onvm_base.specs.declared.ids.RingId.{RingId}
-use Rattle.onvm_base.specs.declared.ids.RingId.TheVariants.{Lane, Output, Mail}
+use Rattle.onvm_base.specs.declared.ids.RingId.TheVariants.{Lane}
 use Rattle.onvm_base.specs.declared.ids.BufId.{BufId}
 use Rattle.onvm_base.specs.declared.ids.FnId.{FnId}
 use Rattle.onvm_base.specs.declared.moves.Move.TheVariants.{Leave}
@@ -13,18 +13,17 @@ use Rattle.onvm_base.specs.declared.outcome.Outcome.TheVariants.{Sent, Dropped, 
 use Rattle.onvm_base.specs.Moves.{enter}
 use Rattle.onvm_core.specs.declared.entry.Entry.{Entry}
 use Rattle.onvm_core.specs.declared.layout.Word.{Word}
-use Rattle.onvm_core.specs.declared.layout.Word.TheVariants.{Pool as PoolWord, Cell, Post as PostWord, Weight}
+use Rattle.onvm_core.specs.declared.layout.Word.TheVariants.{Pool as PoolWord, Cell, Post as PostWord}
 use Rattle.onvm_core.specs.declared.parcel.Parcel.{Parcel}
-use Rattle.onvm_core.specs.declared.step.Item.TheVariants.{Buffer, Number}
 use Rattle.onvm_core.specs.declared.step.Act.{Act}
-use Rattle.onvm_core.specs.declared.step.Act.TheVariants.{Split, Join, Take, Give, Push, Full, Pop, Empty, Look, Post}
+use Rattle.onvm_core.specs.declared.step.Act.TheVariants.{Give, Look}
 use Rattle.onvm_core.specs.declared.step.Step.{Step}
 use Rattle.onvm_core.specs.History.{History}
 use Rattle.onvm_core.specs.Records.{records_of_act}
-use Rattle.onvm_core.specs.Logs.{Setting, Log, log_of, entries_of_port, feeder_count, entry_after, entry_parcel}
-use Rattle.onvm_core.specs.Receiving.{ReceivePhase, phase_after_ask, phase_after_seek, receive_after, receive_phase, done_count, IsBetween, IsMarkAct, MaySeek, IsPoolEmptyRecord, IsThrottleRecord, EntersBy, MayReceiveFor}
-use Rattle.onvm_core.specs.Receiving.ReceivePhase.{Between, Asks, Seeks, Sees, Took, Barred}
-use Rattle.onvm_core.specs.Sending.{SendPhase, send_after, send_phase, MaySend, GoesBy, IsNext}
+use Rattle.onvm_core.specs.Logs.{Setting, Log, log_of, entries_of_port, entry_after, entry_parcel}
+use Rattle.onvm_core.specs.Receiving.{ReceivePhase, receive_phase, done_count, IsMarkAct, IsPoolEmptyRecord, IsThrottleRecord, MayReceiveFor}
+use Rattle.onvm_core.specs.Receiving.ReceivePhase.{Between, Asks, Seeks, Took, Barred}
+use Rattle.onvm_core.specs.Sending.{SendPhase, send_phase, MaySend, IsNext}
 use Rattle.onvm_core.specs.Sending.SendPhase.{Free, Moves as Sending, TurnsBack}
 use Rattle.onvm_core.specs.Blocks.{RoleKind, kind_of, MayFollow, IsOfBlocks, AllOfBlocks}
 use Rattle.onvm_core.specs.Blocks.RoleKind.{Receives, Sends, Handles, Ticks, Leads}
@@ -32,8 +31,6 @@ use Rattle.onvm_core.specs.Earned.{EndsWithLooks, IsEarnedEmpty, IsEarnedFull, I
 use Rattle.onvm_core.proofs.Hands.{IsKind, is_kind}
 use Rattle.onvm_core.proofs.Balance.{own_blocks}
 use Rattle.onvm_core.proofs.Loads.{Each}
-use Rattle.onvm_core.proofs.InBlock.{InBlock, in_block}
-use Rattle.onvm_core.proofs.InBlock.InBlock.{AsksFirst, AsksOn, SeeksOn, Takes, Enters, FindsFull, Leaves, GivesBack}
 use Rattle.onvm_core.proofs.Endings.{EndsSo, SendsSo, receive_ends, send_ends}
 
 -- What a record says of the log before it

@@ -1,37 +1,25 @@
 -- What the log of a receive role ends with, and that of a transmit role: looks that found no buffer, or a full ring.
-use Rattle.std.proofs.Common.{◌≡◌, ℕ, ◌+◌, zero, suc, add-one, ◌⊎◌, inl, inr, List, [], ◌∷◌, refl, sym, ◌∙◌, ap, subst, Option, Some, None}
-use Rattle.std.specs.Prelude.{slice_get, ◌==◌, ◌^◌, ◌/◌}
+use Rattle.std.proofs.Common.{◌≡◌, ℕ, ◌+◌, add-one, inl, inr, [], ◌∷◌, refl, ◌∙◌, ap, Option, Some, None}
+use Rattle.std.specs.Prelude.{◌==◌}
 use Rattle.std.proofs.lemmas.Bool.{cases_Bool, eqb-true}
 use Rattle.onvm_base.specs.declared.ids.RingId.{RingId}
-use Rattle.onvm_base.specs.declared.ids.RingId.TheVariants.{Lane, Output, Mail}
-use Rattle.onvm_base.specs.declared.ids.BufId.{BufId}
-use Rattle.onvm_base.specs.declared.ids.FnId.{FnId}
-use Rattle.onvm_base.specs.declared.moves.Move.TheVariants.{Leave}
+use Rattle.onvm_base.specs.declared.ids.RingId.TheVariants.{Output}
 use Rattle.onvm_base.specs.declared.outcome.Record.{Record}
-use Rattle.onvm_base.specs.declared.outcome.Outcome.{Outcome}
-use Rattle.onvm_base.specs.declared.outcome.Outcome.TheVariants.{Sent, Dropped, Throttled, RingFull, PoolEmpty}
-use Rattle.onvm_base.specs.Moves.{enter}
 use Rattle.onvm_core.specs.declared.entry.Entry.{Entry}
 use Rattle.onvm_core.specs.declared.layout.Word.{Word}
-use Rattle.onvm_core.specs.declared.layout.Word.TheVariants.{Pool as PoolWord, Cell, Post as PostWord, Weight}
+use Rattle.onvm_core.specs.declared.layout.Word.TheVariants.{Pool as PoolWord, Post as PostWord}
 use Rattle.onvm_core.specs.declared.parcel.Parcel.{Parcel}
-use Rattle.onvm_core.specs.declared.step.Item.TheVariants.{Buffer, Number}
+use Rattle.onvm_core.specs.declared.step.Item.TheVariants.{Buffer}
 use Rattle.onvm_core.specs.declared.step.Act.{Act}
-use Rattle.onvm_core.specs.declared.step.Act.TheVariants.{Split, Join, Take, Give, Push, Full, Pop, Empty, Look, Post}
-use Rattle.onvm_core.specs.declared.step.Step.{Step}
-use Rattle.onvm_core.specs.History.{History}
-use Rattle.onvm_core.specs.Records.{records_of_act}
-use Rattle.onvm_core.specs.Logs.{Setting, Log, log_of, entries_of_port, feeder_count, entry_after, entry_parcel}
-use Rattle.onvm_core.specs.Receiving.{ReceivePhase, phase_after_ask, phase_after_seek, receive_after, receive_phase, done_count, IsBetween, IsMarkAct, MaySeek, IsPoolEmptyRecord, IsThrottleRecord, EntersBy, MayReceiveFor}
-use Rattle.onvm_core.specs.Receiving.ReceivePhase.{Between, Asks, Seeks, Sees, Took, Barred}
-use Rattle.onvm_core.specs.Sending.{SendPhase, send_after, send_phase, MaySend, GoesBy, IsNext}
+use Rattle.onvm_core.specs.declared.step.Act.TheVariants.{Split, Give, Push, Full, Pop, Look}
+use Rattle.onvm_core.specs.Logs.{Setting, Log, feeder_count}
+use Rattle.onvm_core.specs.Receiving.{ReceivePhase, phase_after_ask, phase_after_seek, receive_after, receive_phase, IsBetween, MaySeek, EntersBy}
+use Rattle.onvm_core.specs.Receiving.ReceivePhase.{Between, Seeks, Barred}
+use Rattle.onvm_core.specs.Sending.{SendPhase, send_after, send_phase, MaySend, GoesBy}
 use Rattle.onvm_core.specs.Sending.SendPhase.{Free, Moves as Sending, TurnsBack}
-use Rattle.onvm_core.specs.Blocks.{RoleKind, kind_of, MayFollow, IsOfBlocks, AllOfBlocks}
-use Rattle.onvm_core.specs.Blocks.RoleKind.{Receives, Sends, Handles, Ticks, Leads}
-use Rattle.onvm_core.specs.Earned.{EndsWithLooks, IsEarnedEmpty, IsEarnedFull, IsSent, MayRecord}
-use Rattle.onvm_core.proofs.Hands.{IsKind, is_kind}
-use Rattle.onvm_core.proofs.Balance.{own_blocks}
-use Rattle.onvm_core.proofs.Loads.{Each}
+use Rattle.onvm_core.specs.Blocks.RoleKind.{Receives, Sends}
+use Rattle.onvm_core.specs.Earned.{EndsWithLooks, IsEarnedFull}
+use Rattle.onvm_core.proofs.Hands.{IsKind}
 use Rattle.onvm_core.proofs.InBlock.{InBlock, in_block}
 use Rattle.onvm_core.proofs.InBlock.InBlock.{AsksFirst, AsksOn, SeeksOn, Takes, Enters, FindsFull, Leaves, GivesBack}
 

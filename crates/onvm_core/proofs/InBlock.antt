@@ -4,15 +4,15 @@ use Rattle.onvm_base.specs.declared.ids.RingId.{RingId}
 use Rattle.onvm_base.specs.declared.ids.BufId.{BufId}
 use Rattle.onvm_base.specs.declared.outcome.Record.{Record}
 use Rattle.onvm_base.specs.declared.outcome.Outcome.{Outcome}
-use Rattle.onvm_base.specs.declared.outcome.Outcome.TheVariants.{Sent, Dropped, Throttled, RingFull, PoolEmpty}
+use Rattle.onvm_base.specs.declared.outcome.Outcome.TheVariants.{Sent}
 use Rattle.onvm_core.specs.declared.entry.Entry.{Entry}
 use Rattle.onvm_core.specs.declared.layout.Word.{Word}
-use Rattle.onvm_core.specs.declared.layout.Word.TheVariants.{Pool as PoolWord, Cell, Post as PostWord, Weight}
+use Rattle.onvm_core.specs.declared.layout.Word.TheVariants.{Post as PostWord}
 use Rattle.onvm_core.specs.declared.parcel.Parcel.{Parcel}
 use Rattle.onvm_core.specs.declared.step.Act.{Act}
-use Rattle.onvm_core.specs.declared.step.Act.TheVariants.{Split, Join, Take, Give, Push, Full, Pop, Empty, Look, Post}
-use Rattle.onvm_core.specs.declared.step.Item.TheVariants.{Buffer, Number}
-use Rattle.onvm_core.specs.Logs.{Setting, entry_parcel}
+use Rattle.onvm_core.specs.declared.step.Act.TheVariants.{Take, Give, Push, Full, Look}
+use Rattle.onvm_core.specs.declared.step.Item.TheVariants.{Buffer}
+use Rattle.onvm_core.specs.Logs.{Setting}
 use Rattle.onvm_core.specs.Receiving.{ReceivePhase, MayAsk, MaySeek, IsLowest, MayEnter, EntersBy, MayReceiveFor}
 use Rattle.onvm_core.specs.Receiving.ReceivePhase.{Between, Asks, Seeks, Sees, Took, Barred}
 

@@ -1,45 +1,34 @@
 -- What a role pushes weighs no more on the ring than in its hands, and what it pops no more in its hands.
-use Rattle.std.proofs.Common.{◌≡◌, ℕ, ◌+◌, ◌-◌, ◌*◌, ◌<◌, ◌≤◌, zero, suc, ◌⊎◌, inl, inr, ◌∷◌, length, refl, sym, ◌∙◌, ap, subst, arith, Option, Some, None}
-use Rattle.std.specs.Prelude.{nat_lt, unwrap_or}
-use Rattle.std.proofs.lemmas.Bool.{cases_Bool, eq-eqb, ne_eqb, cases_order, le-ltb, ltb-true, ltb-false}
+use Rattle.std.proofs.Common.{◌≡◌, ℕ, ◌+◌, ◌≤◌, ◌⊎◌, inl, inr, ◌∷◌, length, refl, sym, ◌∙◌, ap, subst, arith, Option, Some}
+use Rattle.std.proofs.lemmas.Bool.{cases_Bool, le-ltb}
 use Rattle.onvm_base.specs.declared.ids.RingId.{RingId}
 use Rattle.onvm_base.specs.declared.ids.BufId.{BufId}
 use Rattle.onvm_base.specs.declared.ids.FnId.{FnId}
 use Rattle.std.proofs.lemmas.List.{length_push}
-use Rattle.onvm_base.specs.declared.ids.FrameId.{FrameId}
 use Rattle.onvm_core.specs.declared.layout.Layout.{Layout}
 use Rattle.onvm_core.specs.declared.parcel.Parcel.{Parcel}
-use Rattle.onvm_core.specs.declared.step.Item.{Item}
-use Rattle.onvm_core.specs.declared.step.Item.TheVariants.{Buffer, Number}
-use Rattle.onvm_core.specs.declared.step.Act.{Act}
-use Rattle.onvm_core.specs.declared.step.Act.TheVariants.{Split, Join, Take, Give, Push, Full, Pop, Empty, Look, Post}
-use Rattle.onvm_core.specs.declared.step.Step.{Step}
-use Rattle.onvm_core.specs.declared.place.Place.{Place}
+use Rattle.onvm_core.specs.declared.step.Item.TheVariants.{Buffer}
+use Rattle.onvm_core.specs.declared.step.Act.TheVariants.{Push}
 use Rattle.onvm_core.specs.declared.place.Place.TheVariants.{Ring, Role}
 use Rattle.onvm_core.specs.Layouts.{consumer, core_role}
-use Rattle.onvm_core.specs.History.{History, content_of, place_of, place_by}
-use Rattle.onvm_core.specs.Lawful.{AllowsAct, IsLawful, Suits}
-use Rattle.onvm_core.specs.Logs.{Setting, entries_of_port, Log, log_of, Hand, entry_after, IsNumbered}
-use Rattle.onvm_core.specs.Receiving.{ReceivePhase, receive_after, receive_phase, done_count, MayReceive, MayReceiveFor}
+use Rattle.onvm_core.specs.History.{History}
+use Rattle.onvm_core.specs.Lawful.{Suits}
+use Rattle.onvm_core.specs.Logs.{Setting, Log, Hand}
+use Rattle.onvm_core.specs.Receiving.{ReceivePhase, receive_phase, MayReceiveFor}
 use Rattle.onvm_core.specs.Handling.{core_hand, MayHandle, crumb_place}
 use Rattle.onvm_core.specs.Sending.{SendPhase, send_phase, MaySend}
-use Rattle.onvm_core.specs.Blocks.{RoleKind, kind_of, MayFollow, IsOfBlocks, AllOfBlocks}
-use Rattle.onvm_core.specs.Frames.{Load, load, load_after, block_frame, begun_count}
-use Rattle.onvm_core.specs.Potential.{sum_below, is_sender, load_potential, waiting_count, potential}
+use Rattle.onvm_core.specs.Blocks.{RoleKind}
+use Rattle.onvm_core.specs.Frames.{Load}
+use Rattle.onvm_core.specs.Potential.{is_sender, load_potential}
 use Rattle.onvm_base.specs.declared.ids.RingId.TheVariants.{Lane, Output, Mail}
 use Rattle.onvm_core.specs.declared.entry.Entry.{Entry}
 use Rattle.onvm_core.specs.Receiving.ReceivePhase.{Between, Asks, Seeks, Sees, Took, Barred}
 use Rattle.onvm_core.specs.Sending.SendPhase.{Free, Moves as Sending, TurnsBack}
-use Rattle.onvm_core.specs.Blocks.RoleKind.{Receives, Sends, Handles, Ticks, Leads}
+use Rattle.onvm_core.specs.Blocks.RoleKind.{Receives, Sends, Handles}
 use Rattle.onvm_core.specs.Frames.Load.{Fresh, Loaded}
-use Rattle.onvm_core.proofs.Loads.{own_load, own_load_is, HasLoad, pool_load, content_loaded, IsLoaded}
-use Rattle.onvm_core.proofs.Hands.{is_kind, IsKind}
-use Rattle.onvm_core.proofs.Loads.{IsAt, content_at, first_of}
+use Rattle.onvm_core.proofs.Loads.{own_load}
+use Rattle.onvm_core.proofs.Hands.{IsKind}
 use Rattle.onvm_core.proofs.Hands.{HasTaken, HasHand, HasSend, receive_has, core_has, send_has}
-use Rattle.onvm_core.proofs.Balance.{own_blocks}
-use Rattle.onvm_core.proofs.Begun.{starts, own_begins, kind_receives, kind_other, other_starts}
-use Rattle.onvm_core.proofs.Sums.{sum_same}
-use Rattle.std.proofs.lemmas.Option.{slice_get_within}
 
 -- What is pushed weighs no more than before
 

@@ -1,21 +1,21 @@
 -- A post with a function's bit stands only while the passes say so.
-use Rattle.std.proofs.Common.{◌≡◌, ◌≢◌, ℕ, ◌+◌, ◌/◌, ◌%◌, ◌^◌, ◌<◌, ◌≤◌, Bool, true, false, inl, inr, List, [], ◌∷◌, refl, sym, ◌∙◌, ap, subst, arith}
-use Rattle.std.specs.Prelude.{if◌then◌else◌, ◌==◌, ◌&&◌, ◌||◌, IsBitSet}
+use Rattle.std.proofs.Common.{◌≡◌, ℕ, ◌+◌, ◌/◌, ◌%◌, ◌^◌, ◌<◌, ◌≤◌, Bool, true, false, inl, inr, List, [], ◌∷◌, refl, sym, ◌∙◌, ap, subst, arith}
+use Rattle.std.specs.Prelude.{if◌then◌else◌, ◌==◌, ◌&&◌, IsBitSet}
 use Rattle.std.proofs.lemmas.Bool.{cases_Bool, and_parts, or_cases, eqb-true, eqb-false, eq-eqb, ne_eqb}
 use Rattle.std.proofs.lemmas.Nat.{bit_set_by_shift}
 use Rattle.std.proofs.lemmas.Nat.Bits.{shr_and_one, bit_at-zero}
 use Rattle.onvm_base.specs.declared.limits.TheConstants.{LAST_POST}
-use Rattle.onvm_base.specs.declared.ids.RingId.TheVariants.{Lane, Output, Mail}
+use Rattle.onvm_base.specs.declared.ids.RingId.TheVariants.{Lane}
 use Rattle.onvm_core.specs.declared.layout.Layout.{Layout}
 use Rattle.onvm_core.specs.declared.layout.Word.{Word}
-use Rattle.onvm_core.specs.declared.layout.Word.TheVariants.{Pool as PoolWord, Cell, Post as PostWord, Weight}
+use Rattle.onvm_core.specs.declared.layout.Word.TheVariants.{Cell, Post as PostWord, Weight}
 use Rattle.onvm_core.specs.declared.step.Act.{Act}
-use Rattle.onvm_core.specs.declared.step.Act.TheVariants.{Split, Join, Take, Give, Push, Full, Pop, Empty, Look, Post}
+use Rattle.onvm_core.specs.declared.step.Act.TheVariants.{Look, Post}
 use Rattle.onvm_core.specs.Layouts.{IsFeeder}
 use Rattle.onvm_core.specs.History.{History, posted_on, post_or}
 use Rattle.onvm_core.specs.Lawful.{AllowsAct, AllowsPost, IsLawful}
 use Rattle.onvm_core.specs.Logs.{Setting, Log, log_of}
-use Rattle.onvm_core.specs.Marks.{MarkLook, Pass, MarkEvents, Ages, MarkPhase, posts_so_far, last_post, pass_count, finds, is_throttled, has_bit, IsSettled, IsPaid, IsOwed, looks_of_pass, IsResting, events_in, mark_after_look, mark_after, mark_phase, mark_events, MayMark, AreMarked}
+use Rattle.onvm_core.specs.Marks.{MarkLook, Pass, MarkEvents, Ages, MarkPhase, posts_so_far, last_post, finds, is_throttled, has_bit, IsSettled, IsPaid, IsOwed, looks_of_pass, IsResting, events_in, mark_after_look, mark_after, mark_phase, mark_events, MayMark, AreMarked}
 use Rattle.onvm_core.specs.Marks.MarkEvent.{Passed, Posted}
 use Rattle.onvm_core.specs.Marks.MarkPhase.{AtRest, InPass}
 use Rattle.onvm_core.specs.Earned.{IsRaised, IsRaisedUpToNow, Clears, ClearsAtOnce, IsDue, IsPostWithout, IsLaneLook}

@@ -1,5 +1,5 @@
 -- Trails that lead from the captured bytes: of a parcel that enters, and one crumb on.
-use Rattle.std.proofs.Common.{◌≡◌, ℕ, ◌≤◌, ◌⊎◌, inl, inr, List, [], ◌∷◌, ◌++◌, length, refl, sym, ◌∙◌, ap, subst, arith, Option, Some, None}
+use Rattle.std.proofs.Common.{◌≡◌, ℕ, inl, inr, List, [], ◌∷◌, ◌++◌, length, refl, sym, ◌∙◌, ap, subst, Option, Some}
 use Rattle.std.specs.Prelude.{slice_get, ◌==◌}
 use Rattle.std.proofs.lemmas.Bool.{cases_Bool, eq-eqb}
 use Rattle.onvm_base.specs.declared.ids.RingId.{RingId}
@@ -7,38 +7,21 @@ use Rattle.onvm_base.specs.declared.ids.BufId.{BufId}
 use Rattle.onvm_base.specs.declared.ids.FnId.{FnId}
 use Rattle.onvm_base.specs.declared.ids.FrameId.{FrameId}
 use Rattle.onvm_core.specs.declared.parcel.Parcel.{Parcel}
-use Rattle.onvm_core.specs.declared.step.Item.TheVariants.{Buffer, Number}
+use Rattle.onvm_core.specs.declared.step.Item.TheVariants.{Buffer}
 use Rattle.onvm_core.specs.declared.step.Act.{Act}
-use Rattle.onvm_core.specs.declared.step.Act.TheVariants.{Split, Join, Take, Give, Push, Full, Pop, Empty, Look, Post}
+use Rattle.onvm_core.specs.declared.step.Act.TheVariants.{Push}
 use Rattle.onvm_core.specs.declared.step.Step.{Step}
-use Rattle.onvm_core.specs.Layouts.{producer, core_role}
-use Rattle.onvm_core.specs.History.{History, pushed_on, popped_from}
-use Rattle.onvm_core.specs.Lawful.{AllowsAct, IsLawful}
-use Rattle.onvm_core.specs.Logs.{Setting, Log, log_of, Hand, entry_after, entry_parcel, IsHandled, push_count, last_crumb, with_cursor}
-use Rattle.onvm_core.specs.Receiving.{ReceivePhase, receive_phase, done_count, MayReceiveFor}
-use Rattle.onvm_core.specs.Handling.{core_hand, MayHandle, crumb_place}
-use Rattle.onvm_core.specs.Sending.{SendPhase, send_phase, MaySend}
-use Rattle.onvm_core.specs.Blocks.{RoleKind, kind_of, IsOfBlocks, AllOfBlocks}
-use Rattle.onvm_core.specs.Frames.{Load, load, load_after, block_frame}
-use Rattle.onvm_core.specs.Journals.{Handling, LeadsTo, IsTraced, Names, HasShortJournals, journal, journal_of, handlings, verdict_in, last_popped_parcel}
-use Rattle.onvm_base.specs.declared.outcome.Outcome.{Outcome}
-use Rattle.onvm_base.specs.declared.outcome.Outcome.TheVariants.{Sent, Dropped, Throttled, RingFull, PoolEmpty}
-use Rattle.onvm_base.specs.declared.ids.RingId.TheVariants.{Lane, Output, Mail}
+use Rattle.onvm_core.specs.Layouts.{core_role}
+use Rattle.onvm_core.specs.History.{History}
+use Rattle.onvm_core.specs.Logs.{Setting, Log, log_of, Hand, entry_after, entry_parcel, IsHandled, last_crumb}
+use Rattle.onvm_core.specs.Handling.{core_hand, crumb_place}
+use Rattle.onvm_core.specs.Frames.{Load}
+use Rattle.onvm_core.specs.Journals.{Handling, LeadsTo, IsTraced, journal, journal_of, handlings, verdict_in, last_popped_parcel}
+use Rattle.onvm_base.specs.declared.ids.RingId.TheVariants.{Output}
 use Rattle.onvm_core.specs.declared.entry.Entry.{Entry}
-use Rattle.onvm_core.specs.Receiving.ReceivePhase.{Between, Asks, Seeks, Sees, Took, Barred}
-use Rattle.onvm_core.specs.Sending.SendPhase.{Free, Moves as Sending, TurnsBack}
-use Rattle.onvm_core.specs.Blocks.RoleKind.{Receives, Sends, Handles, Ticks, Leads}
-use Rattle.onvm_core.specs.Frames.Load.{Fresh, Loaded}
-use Rattle.onvm_core.proofs.Loads.{own_load, own_load_is, HasLoad, popped_load, content_loaded}
-use Rattle.onvm_core.proofs.Hands.{is_kind, IsKind}
+use Rattle.onvm_core.specs.Frames.Load.{Loaded}
 use Rattle.onvm_core.specs.declared.parcel.Crumb.{Crumb}
-use Rattle.std.proofs.Common.{length-append}
-use Rattle.std.specs.Prelude.{min}
-use Rattle.std.proofs.lemmas.Option.{slice_get_within}
-use Rattle.onvm_core.proofs.Hands.{HasHand, HasSend, core_has, send_has}
-use Rattle.onvm_core.proofs.Balance.{own_blocks, blocks_before}
 use Rattle.onvm_core.proofs.Lists.{get_front, get_last, last_of_push}
-use Rattle.onvm_core.proofs.Counted.{popped_in_hand, journal_length}
 
 pub log_on : (role : ℕ) (step : Step) (before : History) (act : Act) → step.act ≡ act → step.role ≡ role
     → log_of role (step ∷ before) ≡ act ∷ log_of step.role before

@@ -1,5 +1,5 @@
 -- What each record tells, and that it is true: throttles and overflows are earned, drops and sends are the move's.
-use Rattle.std.specs.Prelude.{ℕ, zero, suc, ◌≡◌, ◌≢◌, ◌+◌, ◌*◌, ◌/◌, ◌^◌, ◌≤◌, ◌⊎◌, true, false, [], ◌∷◌, Some, None}
+use Rattle.std.specs.Prelude.{ℕ, zero, suc, ◌≡◌, ◌+◌, ◌*◌, ◌/◌, ◌^◌, ◌≤◌, ◌⊎◌, true, false, [], ◌∷◌, Some, None}
 use Rattle.onvm_base.specs.declared.limits.TheConstants.{WORD_BITS}
 use Rattle.onvm_base.specs.declared.ids.FnId.{FnId}
 use Rattle.onvm_base.specs.declared.ids.RingId.{RingId}
