@@ -118,6 +118,7 @@ send_so setting feeder (Sending hand) (Full a) before may = goes_full setting fe
 send_so setting feeder (TurnsBack hand ring) (Give a b c) before may = tt
 send_so setting feeder phase act before may = absurd may
 
-pub send_ends : (setting : Setting) (role : ℕ) (log : Log) → IsKind setting role Sends log → SendsSo log (send_phase log)
+pub send_ends : (setting : Setting) (role : ℕ) (log : Log) → IsKind setting role Sends log
+    → SendsSo log (send_phase log)
 send_ends setting role [] kind = tt
 send_ends setting role (act ∷ before) kind = send_so setting role (send_phase before) act before kind.0

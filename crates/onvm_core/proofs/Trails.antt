@@ -30,7 +30,8 @@ log_on role step before act acts same =
 
 -- Trails
 
-pub leads_more : (few many : FnId → List Handling) (frame : FrameId) (input : List ℕ) (trail : List Crumb) (output : List ℕ)
+pub leads_more : (few many : FnId → List Handling) (frame : FrameId) (input : List ℕ) (trail : List Crumb)
+    (output : List ℕ)
     → ((f : FnId) (k : ℕ) (h : Handling) → slice_get (few f) k ≡ Some h → slice_get (many f) k ≡ Some h)
     → LeadsTo few frame input trail output
     → LeadsTo many frame input trail output
