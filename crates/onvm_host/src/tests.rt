@@ -90,6 +90,18 @@ fn a_real_file_gives_what_was_written(rt: HostRuntime) -> Result<(), Fail> {
     Ok(())
 }
 
+// The system has the same standard output under each of these names.
+#[test]
+fn standard_output_is_an_output(rt: HostRuntime) -> Result<(), Fail> {
+    let mut host = FileHost::make(rt);
+    for name in ["/dev/stdout", "/dev/fd/1", "/proc/self/fd/1"] {
+        let mut output = host.create_output(name)?;
+        assert_eq!(rt; output.put(b"onvm_host\n"), Ok(10));
+        assert_eq!(rt; host.keep(output), Ok(()));
+    }
+    Ok(())
+}
+
 #[test]
 fn the_hosts_calls_of_the_listed_numbers_fail(rt: HostRuntime) -> Result<(), Fail> {
     let mut host = host(rt, &[2, 4, 5, 7], 8)?;
