@@ -1,5 +1,5 @@
 -- Keys that compare as equal are the same.
-use Rattle.std.proofs.Common.{◌≡◌, ◌∙◌, sym, ap, ℕ, Bool, true, nat_eq, ◌&&◌, Option, Some, None, refl}
+use Rattle.std.proofs.Common.{◌≡◌, sym, ap, ℕ, Bool, true, nat_eq, ◌&&◌, Option, Some, None, refl}
 use Rattle.std.proofs.lemmas.Bool.{and_parts, eqb-true, true≢false}
 use Rattle.std.specs.Option.{option_eq}
 use Rattle.onvm_packet.specs.contracts.flow_key.FlowEndsPartialEq.TheImpl as ends_impl
