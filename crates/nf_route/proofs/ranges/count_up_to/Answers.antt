@@ -2,7 +2,7 @@ use Rattle.std.proofs.Common.{leb, leb-true, rules}
 use Rattle.std.proofs.lemmas.Bool.{leb-false}
 use Rattle.std.proofs.lemmas.List.Sorted.{IsPartitionPoint-from_clause, IsPartitionedBy-leb}
 use Rattle.nf_route.specs.declared.ranges.Range.{Range}
-use Rattle.nf_route.proofs.ranges.begun.Goals as goal
+use Rattle.nf_route.proofs.ranges.count_up_to.Goals as goal
 
 pub returns-clause-point : goal.returns-clause-point
 returns-clause-point c =

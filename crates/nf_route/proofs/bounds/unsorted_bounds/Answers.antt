@@ -1,6 +1,6 @@
 use Rattle.std.proofs.Common.{arith}
 use Rattle.nf_route.proofs.Parting.{PartFirst-all, PartFirst-more}
-use Rattle.nf_route.proofs.bounds.gathered.Goals as goal
+use Rattle.nf_route.proofs.bounds.unsorted_bounds.Goals as goal
 
 pub loop-entry-preserved : goal.loop-entry-preserved
 loop-entry-preserved c =
