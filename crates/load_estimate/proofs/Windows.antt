@@ -1,6 +1,6 @@
 -- What a window keeps, with one sample more or less, and at a later moment.
-use Rattle.std.proofs.Common.{◌≡◌, ◌∙◌, sym, ap, subst, refl, ℕ, zero, suc, ◌+◌, ◌-◌, ◌*◌, ◌^◌, ◌<◌, ◌≤◌, ltb, List, [], ◌∷◌, ◌++◌, length, drop, Some, inl, inr, arith}
-use Rattle.std.specs.List.{All, slice_get}
+use Rattle.std.proofs.Common.{◌≡◌, ◌∙◌, sym, ap, subst, refl, ℕ, suc, ◌+◌, ◌-◌, ◌^◌, ◌<◌, ◌≤◌, ltb, List, [], ◌∷◌, ◌++◌, length, drop, Some, inl, inr, arith}
+use Rattle.std.specs.List.{slice_get}
 use Rattle.std.specs.List.Sorted.{IsNonDecreasingBy}
 use Rattle.std.proofs.lemmas.Bool.{cases_Bool, lt-ltb, le-ltb}
 use Rattle.std.proofs.lemmas.List.{length-append, map-append}
@@ -81,20 +81,6 @@ AreOfSamples-without_oldest latest (first ∷ rest) n times left frames oldest i
     subst (λ (s : Sample). AreOfSamples latest (buffer rest n) left (frames - s.count)) same
     (oldest_gone latest first rest n times left frames
     (λ less was. taken less (was ∙ ap (λ (s : Sample). insertion s.time less) same)) kept)
-
--- a later moment
-pub AreOfSamples-at_moment : (latest now : ℕ) (samples : Buffer Sample) (times : List ℕ) (frames : ℕ) → latest ≤ now
-    → AreOfSamples latest samples times frames → AreOfSamples now samples times frames
-AreOfSamples-at_moment latest now samples times frames later kept =
-    record {
-      room = kept.room;
-      few = kept.few;
-      rise = kept.rise;
-      past = λ k d lt. omega (arith, kept.past k d lt);
-      counts = kept.counts;
-      times_are = kept.times_are;
-      frames_are = kept.frames_are;
-    }
 
 behind : (rest : List Sample) (next : Sample) → slice_get rest 0 ≡ Some next → (first : Sample)
     → IsNonDecreasingBy (λ (s : Sample). s.moment) (first ∷ rest) → first.moment ≤ next.moment

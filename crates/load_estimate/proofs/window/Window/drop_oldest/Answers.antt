@@ -1,4 +1,4 @@
-use Rattle.std.proofs.Common.{◌∙◌, sym}
+use Rattle.std.proofs.Common.{sym}
 use Rattle.load_estimate.proofs.Windows.{AreOfSamples-without_oldest}
 use Rattle.load_estimate.proofs.window.Window.drop_oldest.Goals as goal
 
