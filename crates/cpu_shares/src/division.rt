@@ -1,12 +1,11 @@
 //! How a core is divided among its functions.
 ghost use Rattle.std.specs.Prelude.{◌≡◌, ◌^◌, ◌<◌, ◌≤◌, ◌↔◌, None, length, slice_get, IfOk, IfSome};
-ghost use Rattle.cpu_shares.specs.declared.limits.TheConstants.{MAX_PRIORITY};
+ghost use Rattle.onvm_base.specs.declared.limits.TheConstants.{MAX_PRIORITY};
 ghost use Rattle.cpu_shares.specs.Shares.{AreLoads, ArePriorities, IsWeight, share_of, shares_of, total_of, weight_of};
 
-use crate::limits::WEIGHT_ONE;
 use crate::load::{Load, total};
 use load_estimate::Share;
-use onvm_base::{ListOf, NoMemory};
+use onvm_base::{ListOf, NoMemory, WEIGHT_ONE};
 use std::alloc::Global;
 
 /// The shares of a core's functions, in order. All are none where no function has a load.

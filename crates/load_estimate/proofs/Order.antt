@@ -1,8 +1,8 @@
 -- Numbers in order, with one more or one less.
-use Rattle.std.proofs.Common.{◌≡◌, ◌∙◌, sym, ap, refl, ℕ, zero, suc, ◌+◌, ◌<◌, ◌≤◌, List, [], ◌∷◌, ◌++◌, length, get_or, inl, inr, arith, ltb}
+use Rattle.std.proofs.Common.{◌≡◌, ◌∙◌, sym, ap, refl, ℕ, zero, suc, ◌+◌, ◌<◌, ◌≤◌, List, [], ◌∷◌, ◌++◌, length, get_or, inl, inr, cond, Result, Ok, Err, IsOk, is_ok, arith, ltb}
 use Rattle.std.specs.List.{insert, remove}
 use Rattle.std.specs.List.Sorted.{IsNonDecreasing, IsPartitionPoint, IsPermutation}
-use Rattle.std.proofs.lemmas.Bool.{cases_Bool, cases_lt, cases_order, lt-ltb, le-ltb}
+use Rattle.std.proofs.lemmas.Bool.{false≢true, cases_Bool, cases_lt, cases_order, lt-ltb, le-ltb}
 use Rattle.std.proofs.lemmas.List.Edits.{get_or-remove_above, get_or-remove_below, length-remove}
 use Rattle.std.proofs.lemmas.List.Sorted.{IsNonDecreasingBy-insert, IsPermutation-cons, IsPermutation-insert, IsPermutation-refl, IsPermutation-trans}
 use Rattle.load_estimate.specs.Order.{insertion, in_order, upper_bound}
@@ -13,6 +13,12 @@ insert-upper_bound n (m ∷ ms) = elim (cases_Bool (ltb n m)) [
   | inl less ↦ rw less refl
   | inr more ↦ rw more (ap (λ xs. m ∷ xs) (insert-upper_bound n ms))
 ]
+
+-- what an insertion leaves that had room
+pub insert-told : {A E : Type 0} (result : Result A E) (n : ℕ) (was now : List ℕ) (at : ℕ) → IsOk result
+    → now ≡ cond (is_ok result) (insert was at n) was → at ≡ upper_bound n was → now ≡ insertion n was
+insert-told (Ok a) n was now at ok is place = is ∙ ap (λ k. insert was k n) place ∙ insert-upper_bound n was
+insert-told (Err e) n was now at ok is place = absurd (false≢true ok)
 
 pub upper_bound-le : (n : ℕ) (ms : List ℕ) → upper_bound n ms ≤ length ms
 upper_bound-le n [] = omega arith

@@ -2,7 +2,7 @@
 use Rattle.std.specs.Prelude.{◌≡◌, ◌≤◌, ◌<◌, ℕ, ◌-◌, ◌^◌, ◌++◌, ◌∷◌, [], List, All, Some, length, drop, slice_get}
 use Rattle.std.specs.List.Sorted.{IsNonDecreasing, IsNonDecreasingBy}
 use Rattle.circular_buffer.specs.Buffer.{Buffer}
-use Rattle.load_estimate.specs.declared.limits.TheConstants.{WINDOW_SAMPLES}
+use Rattle.onvm_base.specs.declared.limits.TheConstants.{WINDOW_SAMPLES}
 use Rattle.load_estimate.specs.declared.sample.Sample.{Sample}
 use Rattle.load_estimate.specs.Order.{in_order}
 use Rattle.load_estimate.specs.Windows.{WindowState, arrivals_of, times_of, young_of}

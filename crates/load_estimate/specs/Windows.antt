@@ -1,7 +1,7 @@
 -- The window of a function's samples, its arrivals and its median.
 use Rattle.std.specs.Prelude.{ℕ, ◌-◌, nat_lt, Bool, List, [], ◌∷◌, ◌++◌, map, filter, sum_by, Option}
 use Rattle.circular_buffer.specs.Buffer.{keep_last}
-use Rattle.load_estimate.specs.declared.limits.TheConstants.{WINDOW_SAMPLES}
+use Rattle.onvm_base.specs.declared.limits.TheConstants.{WINDOW_SAMPLES}
 use Rattle.load_estimate.specs.declared.sample.Sample.{Sample}
 use Rattle.load_estimate.specs.Order.{in_order, lower_middle}
 

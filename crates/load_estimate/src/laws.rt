@@ -1,7 +1,7 @@
 //! What the definitions say of windows and medians.
 ghost use Rattle.std.specs.Prelude.{◌≡◌, ◌≤◌, ◌<◌, ℕ, List, length};
 ghost use Rattle.std.specs.List.Sorted.{IsNonDecreasing, IsPermutation};
-ghost use Rattle.load_estimate.specs.declared.limits.TheConstants.{WINDOW_SAMPLES};
+ghost use Rattle.onvm_base.specs.declared.limits.TheConstants.{WINDOW_SAMPLES};
 ghost use Rattle.load_estimate.specs.declared.sample.Sample.{Sample};
 ghost use Rattle.load_estimate.specs.Calls.{Call, NeverFall, last_age_out, samples_added, window_after_all};
 ghost use Rattle.load_estimate.specs.Order.{in_order};

@@ -8,7 +8,6 @@
 #![tactic(auto)]
 
 pub mod laws;
-mod limits;
 mod sample;
 #[cfg(test)]
 mod tests;

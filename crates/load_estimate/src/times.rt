@@ -1,11 +1,10 @@
 //! Times in order.
 ghost use Rattle.std.specs.Prelude.{◌≡◌, ◌<◌, ℕ, List, [], length, IfOk};
 ghost use Rattle.std.specs.List.Sorted.{IsNonDecreasing};
-ghost use Rattle.load_estimate.specs.declared.limits.TheConstants.{WINDOW_SAMPLES};
+ghost use Rattle.onvm_base.specs.declared.limits.TheConstants.{WINDOW_SAMPLES};
 ghost use Rattle.load_estimate.specs.Order.{insertion, lower_middle, upper_bound};
 
-use crate::limits::WINDOW_SAMPLES;
-use onvm_base::NoMemory;
+use onvm_base::{NoMemory, WINDOW_SAMPLES};
 use std::alloc::Global;
 use std::marker::Model;
 

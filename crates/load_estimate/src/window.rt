@@ -1,15 +1,14 @@
 //! The window of a function.
 ghost use Rattle.std.specs.Prelude.{◌≡◌, ◌≤◌, ◌<◌, length, IfOk};
 ghost use Rattle.std.specs.Bool.{OnTrue, OnFalse};
-ghost use Rattle.load_estimate.specs.declared.limits.TheConstants.{WINDOW_SAMPLES};
+ghost use Rattle.onvm_base.specs.declared.limits.TheConstants.{WINDOW_SAMPLES};
 ghost use Rattle.load_estimate.specs.Windows.{arrivals_of, empty_window, median_of, with_sample, without_old};
 ghost use Rattle.load_estimate.specs.Fields.{AreYoung, IsOldestOld, at_moment, with_newest, without_oldest};
 
 use crate::sample::Sample;
 use crate::times::Times;
 use circular_buffer::HeapCircularBuffer;
-use crate::limits::WINDOW_SAMPLES;
-use onvm_base::NoMemory;
+use onvm_base::{NoMemory, WINDOW_SAMPLES};
 use std::alloc::Global;
 use std::marker::Model;
 

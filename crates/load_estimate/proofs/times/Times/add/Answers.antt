@@ -1,24 +1,7 @@
-use Rattle.std.proofs.Common.{◌≡◌, ◌∙◌, ap, ℕ, ◌<◌, List, length, cond, Result, Ok, Err, IsOk, is_ok, arith}
-use Rattle.std.specs.List.{insert}
-use Rattle.std.proofs.lemmas.Bool.{false≢true}
+use Rattle.std.proofs.Common.{◌≡◌, ◌∙◌, ap, ◌<◌, length, arith}
 use Rattle.load_estimate.specs.Order.{insertion, upper_bound}
-use Rattle.load_estimate.proofs.Order.{insert-upper_bound, upper_bound-le, IsNonDecreasing-insertion}
+use Rattle.load_estimate.proofs.Order.{insert-told, upper_bound-le, IsNonDecreasing-insertion}
 use Rattle.load_estimate.proofs.times.Times.add.Goals as goal
-
--- what an insertion that had room left
-told : {A E : Type 0} (result : Result A E) (xs ys zs : List ℕ) → IsOk result → zs ≡ cond (is_ok result) xs ys → zs ≡ xs
-told (Ok a) xs ys zs ok is = is
-told (Err e) xs ys zs ok is = absurd (false≢true ok)
-
-placed : (c : goal.After-insert) → c.insert.new.self.items ≡ insertion c.args.time c.self.inside.items.items
-placed c =
-    let at = c.upper_bound-at.ensures ∙ ap (λ xs. upper_bound c.args.time xs) c.deref.ensures.value in
-    let few : length c.self.inside.items.items < 1024 = rw c.self.view_is c.requires in
-    told c.insert.result _ _ _
-    (c.insert.ensures.succeeds (omega (arith, c.self.invariant.room_for, c.deref.ensures.len, ap length c.deref.ensures.value)))
-    c.insert.ensures.items
-    ∙ ap (λ n. insert c.self.inside.items.items n c.args.time) at
-    ∙ insert-upper_bound c.args.time c.self.inside.items.items
 
 pub insert-requires : goal.insert-requires
 insert-requires c =
@@ -26,10 +9,24 @@ insert-requires c =
 
 pub invariant_of-self : goal.invariant_of-self
 invariant_of-self c =
+    let times = c.self.inside.items.items in
+    let few : length times < 1024 = rw c.self.view_is c.requires in
+    let done = c.insert.ensures.succeeds
+    (omega (arith, c.self.invariant.room_for, c.deref.ensures.len, ap length c.deref.ensures.value)) in
+    let at = c.upper_bound-at.ensures ∙ ap (upper_bound c.args.time) c.deref.ensures.value in
     record {
-      rise = rw (placed c) (IsNonDecreasing-insertion _ _ c.self.invariant.rise);
+      rise =
+          rw (insert-told c.insert.result c.args.time times _ _ done c.insert.ensures.items at)
+          (IsNonDecreasing-insertion _ _ c.self.invariant.rise);
       room_for = omega (arith, c.self.invariant.room_for, c.insert.ensures.capacity);
     }
 
 pub returns : goal.returns
-returns c = placed c ∙ ap (λ xs. insertion c.args.time xs) c.self.view_is
+returns c =
+    let times = c.self.inside.items.items in
+    let few : length times < 1024 = rw c.self.view_is c.requires in
+    let done = c.insert.ensures.succeeds
+    (omega (arith, c.self.invariant.room_for, c.deref.ensures.len, ap length c.deref.ensures.value)) in
+    let at = c.upper_bound-at.ensures ∙ ap (upper_bound c.args.time) c.deref.ensures.value in
+    insert-told c.insert.result c.args.time times _ _ done c.insert.ensures.items at
+    ∙ ap (insertion c.args.time) c.self.view_is
