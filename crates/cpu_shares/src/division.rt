@@ -1,5 +1,5 @@
 //! How a core is divided among its functions.
-ghost use Rattle.std.specs.Prelude.{◌≡◌, ◌^◌, ◌<◌, ◌≤◌, ◌↔◌, None, length, slice_get, IfOk, IfSome};
+ghost use Rattle.std.specs.Prelude.{◌≡◌, ◌^◌, ◌<◌, ◌≤◌, ◌↔◌, ◌*◌, None, length, slice_get, IfOk, IfSome};
 ghost use Rattle.onvm_base.specs.declared.limits.TheConstants.{MAX_PRIORITY};
 ghost use Rattle.cpu_shares.specs.Shares.{AreLoads, ArePriorities, IsWeight, share_of, shares_of, total_of, weight_of};
 
