@@ -33,9 +33,9 @@ loaded samples few all =
     record {
       arrivals = let sum = sum_by-le (λ (s : Sample). s.count) (2 ^ 24 - 1) samples count in omega arith;
       median = λ time is.
-      All-slice_get (2 ^ 40) (in_order (times_of samples)) _ time
-      (All-permutation (λ (t : ℕ). t < 2 ^ 40) (times_of samples) (in_order (times_of samples))
-      (IsPermutation-in_order (times_of samples)) times) is;
+          All-slice_get (2 ^ 40) (in_order (times_of samples)) _ time
+          (All-permutation (λ (t : ℕ). t < 2 ^ 40) (times_of samples) (in_order (times_of samples))
+          (IsPermutation-in_order (times_of samples)) times) is;
     }
 
 pub IsLoad-window_of : (span now : ℕ) (logged : List Sample) → All IsMailed logged

@@ -27,7 +27,7 @@ newest_kept latest samples times frames sample n later small room kept =
     record {
       room = kept.room;
       few = simp length-append (omega arith);
-      rise = 
+      rise =
           IsNonDecreasingBy-push (λ (s : Sample). s.moment) samples sample kept.rise
           (λ d some. omega (arith, kept.past (length samples - 1) d (omega arith)));
       past =
