@@ -7,5 +7,6 @@ ghost use Rattle.cpu_shares.specs.Shares.{IsLoad, IsMailed, load_in};
 /// What a window says of samples with counts below 2^24 and times below 2^40 is a load of which
 /// shares can be made. A mail ring carries no others.
 pub fn a_window_gives_a_load()
-    ensures { (span now : ℕ) (logged : List Sample) → All IsMailed logged → IsLoad (load_in (window_of span now logged)) }
+    ensures { (span now : ℕ) (logged : List Sample) → All IsMailed logged
+        → IsLoad (load_in (window_of span now logged)) }
 {}

@@ -1,6 +1,5 @@
 -- What a window holds after one call more.
 use Rattle.std.proofs.Common.{◌≡◌, ◌∙◌, sym, ap, refl, ℕ, suc, ◌+◌, ◌-◌, ◌<◌, ◌≤◌, List, [], ◌∷◌, ◌++◌, length, drop, inl, inr, arith}
-use Rattle.std.specs.List.{All}
 use Rattle.std.specs.List.Sorted.{IsNonDecreasingBy}
 use Rattle.std.proofs.lemmas.Bool.{cases_lt, lt-ltb, le-ltb}
 use Rattle.std.proofs.lemmas.List.{length-append, length-drop, drop-append-le, append_assoc, drop-drop, append-nil}
@@ -10,7 +9,7 @@ use Rattle.std.proofs.lemmas.Option.{same_Some}
 use Rattle.circular_buffer.specs.Buffer.{keep_last}
 use Rattle.load_estimate.specs.declared.sample.Sample.{Sample}
 use Rattle.load_estimate.specs.Calls.{Call, Add, AgeOut, NeverFall, last_age_out, samples_added, window_after_all}
-use Rattle.load_estimate.specs.Windows.{WindowState, without_old, empty_window, with_sample, window_of, young_of}
+use Rattle.load_estimate.specs.Windows.{IsWindowOf, WindowState, without_old, empty_window, with_sample, window_of, young_of}
 use Rattle.load_estimate.proofs.Windows.{keep_last-few, young_of-all}
 
 -- who is old at a moment is old at a later one
@@ -102,10 +101,10 @@ keep_last-young_full n span m (first ∷ rest) sample many some later full up =
     ]
 
 -- of the young ones of at most n samples and one more, the last n
-last-young_of : (n span m : ℕ) (samples : List Sample) (sample : Sample) → 0 < n → 0 < span → m ≤ sample.moment
+keep_last-young_of : (n span m : ℕ) (samples : List Sample) (sample : Sample) → 0 < n → 0 < span → m ≤ sample.moment
     → length samples ≤ n → IsNonDecreasingBy (λ (s : Sample). s.moment) samples
     → keep_last n (young_of span m samples ++ sample ∷ []) ≡ young_of span m (keep_last n (samples ++ sample ∷ []))
-last-young_of n span m samples sample many some later few up = elim (cases_lt (length samples) n) [
+keep_last-young_of n span m samples sample many some later few up = elim (cases_lt (length samples) n) [
   | inl less ↦
       keep_last-few n (young_of span m samples ++ sample ∷ [])
       (simp length-append (omega (arith, length-young_of span m samples)))
@@ -114,77 +113,75 @@ last-young_of n span m samples sample many some later few up = elim (cases_lt (l
   | inr full ↦ keep_last-young_full n span m samples sample many some later (omega arith) up
 ]
 
-pub record Stands (span m latest : ℕ) (all : List Sample) (window : WindowState) : Type 0 where
-  pub span_is : window.span ≡ span
-  pub latest_is : window.latest ≡ latest
-  pub before : m ≤ latest
-  pub rise : IsNonDecreasingBy (λ (s : Sample). s.moment) all
-  pub past : All (λ (s : Sample). s.moment ≤ latest) all
-  pub samples_are : window.samples ≡ window_of span m all
-
-add_stands : (span m latest : ℕ) (all : List Sample) (window : WindowState) (sample : Sample) → 0 < span
-    → latest ≤ sample.moment → Stands span m latest all window
-    → Stands span m sample.moment (all ++ sample ∷ []) (with_sample sample window)
-add_stands span m latest all window sample some later stands =
-    let before : m ≤ sample.moment = omega (arith, stands.before) in
+-- with one sample more it is the window of one sample more
+pub IsWindowOf-with_sample : (span m latest : ℕ) (all : List Sample) (window : WindowState) (sample : Sample) → 0 < span
+    → latest ≤ sample.moment → IsWindowOf span m latest all window
+    → IsWindowOf span m sample.moment (all ++ sample ∷ []) (with_sample sample window)
+IsWindowOf-with_sample span m latest all window sample some later is_window =
+    let before : m ≤ sample.moment = omega (arith, is_window.aged_before) in
     record {
-      span_is = stands.span_is;
+      span_is = is_window.span_is;
       latest_is = refl;
-      before = before;
+      aged_before = before;
       rise =
-          IsNonDecreasingBy-push (λ (s : Sample). s.moment) all sample stands.rise
-          (λ d some. omega (arith, stands.past (length all - 1) d (omega arith)));
+          IsNonDecreasingBy-push (λ (s : Sample). s.moment) all sample is_window.rise
+          (λ d some. omega (arith, is_window.past (length all - 1) d (omega arith)));
       past =
           All-push (λ (s : Sample). s.moment ≤ sample.moment) all sample
-          (λ k d lt. omega (arith, stands.past k d lt)) (omega arith);
+          (λ k d lt. omega (arith, is_window.past k d lt)) (omega arith);
       samples_are =
-          ap (λ xs. keep_last 1024 (xs ++ sample ∷ [])) stands.samples_are
-          ∙ last-young_of 1024 span m (keep_last 1024 all) sample (omega arith) some before
+          ap (λ xs. keep_last 1024 (xs ++ sample ∷ [])) is_window.samples_are
+          ∙ keep_last-young_of 1024 span m (keep_last 1024 all) sample (omega arith) some before
           (omega (arith, length-drop (length all - 1024) all))
-          (IsNonDecreasingBy-drop (λ (s : Sample). s.moment) (length all - 1024) all stands.rise)
+          (IsNonDecreasingBy-drop (λ (s : Sample). s.moment) (length all - 1024) all is_window.rise)
           ∙ ap (young_of span m) (sym (keep_last-push 1024 all sample (omega arith)));
     }
 
-age_stands : (span m latest now : ℕ) (all : List Sample) (window : WindowState) → latest ≤ now
-    → Stands span m latest all window → Stands span now now all (without_old now window)
-age_stands span m latest now all window later stands =
+-- at a later moment it is the window of that moment
+pub IsWindowOf-without_old : (span m latest now : ℕ) (all : List Sample) (window : WindowState) → latest ≤ now
+    → IsWindowOf span m latest all window → IsWindowOf span now now all (without_old now window)
+IsWindowOf-without_old span m latest now all window later is_window =
     record {
-      span_is = stands.span_is;
+      span_is = is_window.span_is;
       latest_is = refl;
-      before = omega arith;
-      rise = stands.rise;
-      past = λ k d lt. omega (arith, stands.past k d lt);
+      aged_before = omega arith;
+      rise = is_window.rise;
+      past = λ k d lt. omega (arith, is_window.past k d lt);
       samples_are =
-          ap (λ s. young_of s now window.samples) stands.span_is
-          ∙ ap (young_of span now) stands.samples_are
-          ∙ young_of-young_of span m now (omega (arith, stands.before)) (keep_last 1024 all);
+          ap (λ s. young_of s now window.samples) is_window.span_is
+          ∙ ap (young_of span now) is_window.samples_are
+          ∙ young_of-young_of span m now (omega (arith, is_window.aged_before)) (keep_last 1024 all);
     }
 
-calls_stand : (span m latest : ℕ) (all : List Sample) (window : WindowState) (calls : List Call) → 0 < span
-    → NeverFall latest calls → Stands span m latest all window
+calls_after : (span m latest : ℕ) (all : List Sample) (window : WindowState) (calls : List Call) → 0 < span
+    → NeverFall latest calls → IsWindowOf span m latest all window
     → (window_after_all window calls).samples ≡ window_of span (last_age_out m calls) (all ++ samples_added calls)
-calls_stand span m latest all window [] some fall stands =
-    stands.samples_are ∙ ap (window_of span m) (sym (append-nil all))
-calls_stand span m latest all window (Add sample ∷ calls) some fall stands =
-    calls_stand span m sample.moment (all ++ sample ∷ []) (with_sample sample window) calls some fall.1
-    (add_stands span m latest all window sample some fall.0 stands)
+calls_after span m latest all window [] some fall is_window =
+    is_window.samples_are ∙ ap (window_of span m) (sym (append-nil all))
+calls_after span m latest all window (Add sample ∷ calls) some fall is_window =
+    calls_after span m sample.moment (all ++ sample ∷ []) (with_sample sample window) calls some fall.1
+    (IsWindowOf-with_sample span m latest all window sample some fall.0 is_window)
     ∙ ap (window_of span (last_age_out m calls)) (append_assoc all (sample ∷ []) (samples_added calls))
-calls_stand span m latest all window (AgeOut now ∷ calls) some fall stands =
-    calls_stand span now now all (without_old now window) calls some fall.1
-    (age_stands span m latest now all window fall.0 stands)
+calls_after span m latest all window (AgeOut now ∷ calls) some fall is_window =
+    calls_after span now now all (without_old now window) calls some fall.1
+    (IsWindowOf-without_old span m latest now all window fall.0 is_window)
 
-pub window_after_all-empty : (length : ℕ) (calls : List Call) → 0 < length → NeverFall 0 calls
-    → (window_after_all (empty_window length) calls).samples ≡ window_of length (last_age_out 0 calls) (samples_added calls)
-window_after_all-empty span calls some fall =
-    calls_stand span 0 0 [] (empty_window span) calls some fall
-    (record {
+pub IsWindowOf-empty_window : (span : ℕ) → IsWindowOf span 0 0 [] (empty_window span)
+IsWindowOf-empty_window span =
+    record {
       span_is = refl;
       latest_is = refl;
-      before = omega arith;
+      aged_before = omega arith;
       rise = λ i j d le lt. absurd (omega arith);
       past = λ k d lt. absurd (omega arith);
       samples_are = refl;
-    })
+    }
+
+pub window_after_all-empty : (length : ℕ) (calls : List Call) → 0 < length → NeverFall 0 calls
+    → (window_after_all (empty_window length) calls).samples
+    ≡ window_of length (last_age_out 0 calls) (samples_added calls)
+window_after_all-empty span calls some fall =
+    calls_after span 0 0 [] (empty_window span) calls some fall (IsWindowOf-empty_window span)
 
 -- a window has few samples
 pub length-window_of : (span now : ℕ) (samples : List Sample) → length (window_of span now samples) ≤ 1024

@@ -53,7 +53,7 @@ insertion-greater a b below (m ∷ ms) =
           let other : a < m = omega arith in
           simp (first, last, lt-ltb b m before, lt-ltb a m other) refl
       | inr behind ↦ elim (cases_lt a m) [
-        | inl before ↦ simp (first, last, le-ltb b m behind, lt-ltb a m before) refl
+        | inl before ↦ simp (last, le-ltb b m behind, lt-ltb a m before) refl
         | inr upto ↦
             simp (le-ltb b m behind, le-ltb a m upto) (ap (λ xs. m ∷ xs) (insertion-greater a b below ms))
       ]
@@ -62,7 +62,10 @@ insertion-greater a b below (m ∷ ms) =
 pub insertion-insertion : (a b : ℕ) (ms : List ℕ) → insertion a (insertion b ms) ≡ insertion b (insertion a ms)
 insertion-insertion a b ms = elim (cases_order a b) [
   | inl same ↦ rw same refl
-  | inr apart ↦ elim apart [ inl below ↦ insertion-greater a b below ms | inr above ↦ sym (insertion-greater b a above ms) ]
+  | inr apart ↦ elim apart [
+    | inl below ↦ insertion-greater a b below ms
+    | inr above ↦ sym (insertion-greater b a above ms)
+  ]
 ]
 
 pub in_order-push : (ns : List ℕ) (n : ℕ) → in_order (ns ++ n ∷ []) ≡ insertion n (in_order ns)

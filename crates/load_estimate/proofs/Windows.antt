@@ -15,14 +15,16 @@ use Rattle.load_estimate.specs.Windows.{arrivals_of, times_of, young_of}
 use Rattle.load_estimate.specs.Fields.{AreOfSamples}
 use Rattle.load_estimate.proofs.Order.{in_order-push}
 
-pub arrivals_of-push : (samples : List Sample) (sample : Sample) → arrivals_of (samples ++ sample ∷ []) ≡ arrivals_of samples + sample.count
+pub arrivals_of-push : (samples : List Sample) (sample : Sample)
+    → arrivals_of (samples ++ sample ∷ []) ≡ arrivals_of samples + sample.count
 arrivals_of-push samples sample = omega (arith, sum_by-append (λ (s : Sample). s.count) samples (sample ∷ []))
 
 -- one sample more
 newest_kept : (latest : ℕ) (samples : List Sample) (times : List ℕ) (frames : ℕ) (sample : Sample) (n : ℕ)
     → latest ≤ sample.moment → sample.count < 2 ^ 32 → length samples < 1024
     → AreOfSamples latest (buffer samples n) times frames
-    → AreOfSamples sample.moment (buffer (samples ++ sample ∷ []) n) (insertion sample.time times) (frames + sample.count)
+    → AreOfSamples sample.moment (buffer (samples ++ sample ∷ []) n) (insertion sample.time times)
+    (frames + sample.count)
 newest_kept latest samples times frames sample n later small room kept =
     record {
       room = kept.room;
@@ -50,7 +52,8 @@ pub AreOfSamples-with_newest : (latest : ℕ) (samples : Buffer Sample) (times :
     → AreOfSamples sample.moment (buffer (keep_last samples.capacity (samples.items ++ sample ∷ [])) samples.capacity)
     (insertion sample.time times) (frames + sample.count)
 AreOfSamples-with_newest latest samples times frames sample later small room kept =
-    let few : length (samples.items ++ sample ∷ []) ≤ samples.capacity = simp length-append (omega (arith, kept.room)) in
+    let few : length (samples.items ++ sample ∷ []) ≤ samples.capacity =
+    simp length-append (omega (arith, kept.room)) in
     rw (keep_last-few samples.capacity (samples.items ++ sample ∷ []) few)
     (newest_kept latest samples.items times frames sample samples.capacity later small room kept)
 

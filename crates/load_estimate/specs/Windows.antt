@@ -1,5 +1,6 @@
 -- The window of a function's samples, its arrivals and its median.
-use Rattle.std.specs.Prelude.{ℕ, ◌-◌, nat_lt, Bool, List, [], ◌∷◌, ◌++◌, map, filter, sum_by, Option}
+use Rattle.std.specs.Prelude.{◌≡◌, ℕ, ◌-◌, ◌≤◌, nat_lt, Bool, List, [], ◌∷◌, ◌++◌, All, map, filter, sum_by, Option}
+use Rattle.std.specs.List.Sorted.{IsNonDecreasingBy}
 use Rattle.circular_buffer.specs.Buffer.{keep_last}
 use Rattle.onvm_base.specs.declared.limits.TheConstants.{WINDOW_SAMPLES}
 use Rattle.load_estimate.specs.declared.sample.Sample.{Sample}
@@ -49,3 +50,13 @@ with_sample sample window =
 abbrev pub without_old : ℕ → WindowState → WindowState
 without_old now window =
     record { span = window.span; latest = now; samples = young_of window.span now window.samples }
+
+-- a window is that of the samples that were logged, whose moments rise up to the latest one, as of the moment at
+-- which it was last aged out
+pub record IsWindowOf (span aged latest : ℕ) (logged : List Sample) (window : WindowState) : Type 0 where
+  pub span_is : window.span ≡ span
+  pub latest_is : window.latest ≡ latest
+  pub aged_before : aged ≤ latest
+  pub rise : IsNonDecreasingBy (λ sample. sample.moment) logged
+  pub past : All (λ sample. sample.moment ≤ latest) logged
+  pub samples_are : window.samples ≡ window_of span aged logged

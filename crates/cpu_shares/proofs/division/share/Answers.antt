@@ -5,4 +5,5 @@ pub returns-clause-share : goal.returns-clause-share
 returns-clause-share c =
     rw c.share_in.ensures.share
     (rw (c.value.ensures.is, c.total.ensures.is)
-    (slice_get-shares_in _ c.args.loads.now c.args.priorities.now c.args.at c.requires.within c.requires.priorities.as_many))
+    (slice_get-shares_in _ c.args.loads.now c.args.priorities.now c.args.at c.requires.within
+    c.requires.priorities.as_many))

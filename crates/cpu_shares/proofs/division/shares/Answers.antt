@@ -15,7 +15,8 @@ loop-at-preserved c =
     c.in_ok-push.ensures.ok
     ∙ ap (λ shares. shares ++ c.share_in.result ∷ []) c.loop-at.invariant
     ∙ ap (λ share. take c.loop-at.at (shares_of loads priorities) ++ share ∷ []) share
-    ∙ sym (take-shares_in (total_of loads) loads priorities c.loop-at.at c.loop-at-test.true c.requires.priorities.as_many)
+    ∙ sym (take-shares_in (total_of loads) loads priorities c.loop-at.at c.loop-at-test.true
+    c.requires.priorities.as_many)
 
 pub returns : goal.returns
 returns c =

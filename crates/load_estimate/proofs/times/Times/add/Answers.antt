@@ -1,4 +1,4 @@
-use Rattle.std.proofs.Common.{◌≡◌, ◌∙◌, ap, ◌<◌, length, arith}
+use Rattle.std.proofs.Common.{◌∙◌, ap, ◌<◌, length, arith}
 use Rattle.load_estimate.specs.Order.{insertion, upper_bound}
 use Rattle.load_estimate.proofs.Order.{insert-told, upper_bound-le, IsNonDecreasing-insertion}
 use Rattle.load_estimate.proofs.times.Times.add.Goals as goal

@@ -25,4 +25,5 @@ invariant_of-self c =
     let latest = ap (λ (window : WindowState). window.latest) c.self.view_is in
     let small : c.args.sample.count < 2 ^ 32 = omega arith in
     rw (c.push_back.ensures.items, c.add.ensures, c.from.ensures)
-    (AreOfSamples-with_newest _ _ _ _ _ (omega (arith, c.requires.later)) small (omega (arith, c.requires.room)) c.self.invariant)
+    (AreOfSamples-with_newest _ _ _ _ _ (omega (arith, c.requires.later)) small (omega (arith, c.requires.room))
+    c.self.invariant)
