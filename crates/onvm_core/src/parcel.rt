@@ -11,17 +11,17 @@ pub const MAX_PLACE: u32 = 4_294_967_295;
 /// That a function handled the frame.
 #[derive(Clone, Copy, Debug, PartialEq, Eq)]
 pub struct Crumb {
-    pub function: FnId,
     /// How many entries the function's journal had before, at most [`MAX_PLACE`].
     pub place: u32,
+    pub function: FnId,
     pub verdict: Verdict,
 }
 
 /// The crumbs of a frame, the oldest first. There are at most [`MAX_HOPS`], and they take no memory.
 #[derive(Debug, Drop)]
 pub struct Trail {
-    crumbs: [Crumb; MAX_HOPS as usize],
     len: u8,
+    crumbs: [Crumb; MAX_HOPS as usize],
 }
 
 impl Model for Trail {
@@ -83,11 +83,11 @@ impl Trail {
 pub struct Parcel {
     pub frame: FrameId,
     pub stamp: Stamp,
+    /// The flow hash at entry.
+    pub hash: u32,
     pub packet: Packet,
     pub chain: ChainId,
     /// The place in the chain's steps.
     pub cursor: u8,
-    /// The flow hash at entry.
-    pub hash: u32,
     pub trail: Trail,
 }
