@@ -1,15 +1,12 @@
 -- What was fed to a reader that wants more is sound so far.
-use Rattle.std.proofs.Common.{◌≡◌, ◌∙◌, sym, ap, subst, refl, ◌⊎◌, inl, inr, ℕ, ◌+◌, ◌<◌, ◌≤◌, true, Some, None, List, [], ◌∷◌, ◌++◌, length, lit≤, arith}
+use Rattle.std.proofs.Common.{◌≡◌, sym, subst, refl, ◌⊎◌, inl, inr, ℕ, ◌+◌, ◌<◌, true, List, [], ◌∷◌, ◌++◌, length, arith}
 use Rattle.std.proofs.lemmas.List.{append-nil}
 use Rattle.onvm_base.specs.declared.frame.Frame.{Frame}
 use Rattle.pcap_in.specs.Calls.{HasRead}
-use Rattle.pcap_in.specs.Classic.{IsCapture}
 use Rattle.pcap_in.specs.Faulty.{EndsInRecord, IsCaptureUpTo}
-use Rattle.pcap_in.specs.Reading.{Reading, AtRecord, EndsInHeader, IsFaulty, Pulls, unfed}
+use Rattle.pcap_in.specs.Reading.{Reading, AtRecord, EndsInHeader, IsFaulty, unfed}
 use Rattle.pcap_in.specs.declared.pull.PcapFault.{PcapFault}
 use Rattle.pcap_in.specs.declared.pull.PcapFault.TheVariants.{Torn}
-use Rattle.pcap_in.specs.declared.pull.Pull.TheVariants as pull
-use Rattle.pcap_in.specs.declared.spelling.Spelling.{Spelling}
 use Rattle.pcap_in.proofs.Faults.{capture_first, fault_once, no_fault, up_to_first}
 use Rattle.pcap_in.proofs.HasRead.{HasRead-fed, IsCapture-ended, IsCaptureUpTo-met}
 use Rattle.ingress.specs.Fed.{WantsMore}

@@ -1,5 +1,5 @@
 -- How many bytes calls moved together, and where takes ended.
-use Rattle.std.specs.Prelude.{◌≡◌, ℕ, ◌+◌, ◌<◌, List, [], ◌∷◌, ◌++◌, Option, Some, None}
+use Rattle.std.specs.Prelude.{◌≡◌, ℕ, ◌+◌, ◌<◌, [], ◌∷◌, ◌++◌, Option, Some, None}
 use Rattle.onvm_host.specs.Deeds.{Amounts}
 
 -- each call moved at least one byte, and all together so many

@@ -1,5 +1,5 @@
 -- What a status tells, by cases, and that no two statuses tell the same.
-use Rattle.std.proofs.Common.{◌≡◌, ◌≢◌, ◌∙◌, sym, ap, subst, refl, inl, inr, ◌⊎◌, ℕ, ◌<◌, List, [], ◌∷◌, ◌++◌, Option, Some}
+use Rattle.std.proofs.Common.{◌≡◌, ◌≢◌, ◌∙◌, sym, ap, subst, refl, inl, inr, ◌⊎◌, ℕ, ◌<◌, List, [], ◌∷◌, Option, Some}
 use Rattle.onvm_base.specs.declared.frame.Frame.{Frame}
 use Rattle.onvm_base.specs.declared.status.Status.{Status}
 use Rattle.onvm_base.specs.declared.status.Status.TheVariants.{Done, Words, Plan, Capture, Read, Write, Memory}
@@ -10,7 +10,7 @@ use Rattle.pcap_in.proofs.Faults.{no_fault, capture_first}
 use Rattle.onvm_top.specs.Answers.{IsAnswer, IsBadCapture, IsChain, IsGoodCapture, IsNoCommand, IsOtherChain, IsUnlessStopped}
 use Rattle.onvm_top.specs.Command.{Command, IsCommand}
 use Rattle.onvm_top.specs.Fault.{status_of}
-use Rattle.ingress.specs.Limits.{IsWithinLimits, PassesLimit}
+use Rattle.ingress.specs.Limits.{PassesLimit}
 use Rattle.ingress.proofs.Captured.{within_first}
 use Rattle.onvm_top.specs.Replay.{IsReplayed}
 use Rattle.onvm_top.specs.Stops.{CannotReadSound, IsStopped}
