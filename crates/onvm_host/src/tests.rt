@@ -4,6 +4,7 @@ use crate::{
     have_distinct_names,
 };
 use onvm_base::{Failed, ListOf, Text};
+use std::process;
 use std::test::Fail;
 
 fn text(rt: HostRuntime, bytes: &[u8]) -> Result<Text, Fail> {
@@ -75,7 +76,12 @@ fn a_host_in_memory_gives_what_was_written(rt: HostRuntime) -> Result<(), Fail> 
 fn a_real_file_gives_what_was_written(rt: HostRuntime) -> Result<(), Fail> {
     let mut host = FileHost::make(rt);
     let mut into = [0u8; 4];
-    let name = "/tmp/onvm_host_a_real_file_gives_what_was_written";
+    // Two runs of this test at once, as in two checkouts, have two files.
+    let number = process::id(rt.process());
+    let name = format!(in rt.alloc();
+        "/tmp/onvm_host_a_real_file_gives_what_was_written_{number}"
+    )?;
+    let name = name.as_str();
     assert_eq!(rt;
         write_and_read(&mut host, name, &[7, 8, 9, 10, 11], &mut into)?,
         (5, 4)
