@@ -66,12 +66,15 @@ status=$?
 judge 'a limit on the size of files' 6 'fault write' "$room/said" is_front "$room/out" "$room/capture" 102400
 
 # The line of the failed write finds no room behind the output, and must not go over its begin.
-for out in /dev/stdout "$room/both"; do
-    (ulimit -f "$blocks" && exec ./onvm "$chain" "$out" "$room/capture") >"$room/both"
-    status=$?
-    judge "OUT is $out, and what is said goes there too" 6 '' /dev/null \
-        is_front "$room/both" "$room/capture" 102400
-done
+(ulimit -f "$blocks" && exec ./onvm "$chain" /dev/stdout "$room/capture") >"$room/both"
+status=$?
+judge 'OUT is standard output' 6 '' /dev/null is_front "$room/both" "$room/capture" 102400
+
+# What the program emits and what comes after it, in the order in which they were written.
+(./onvm "$chain" /dev/stdout "$room/small" && echo behind) >"$room/both"
+status=$?
+(cat "$room/small" && echo behind) >"$room/wanted"
+judge 'OUT is standard output, and a command behind it writes there' 0 '' /dev/null cmp -s "$room/wanted" "$room/both"
 
 echo "system: $passed passed, $wrong failed"
 [ "$passed" -gt 0 ] && [ "$wrong" -eq 0 ]
