@@ -8,17 +8,17 @@ use std::marker::Model;
 /// That a function handled the frame.
 #[derive(Clone, Copy, Debug, PartialEq, Eq)]
 pub struct Crumb {
-    pub function: FnId,
     /// How many entries the function's journal had before, at most 4,294,967,295.
     pub place: u32,
+    pub function: FnId,
     pub verdict: Verdict,
 }
 
 /// The crumbs of a frame, the oldest first. There are at most 32, and they take no memory.
 #[derive(Debug, Drop)]
 pub struct Trail {
-    crumbs: [Crumb; MAX_HOPS as usize],
     len: u8,
+    crumbs: [Crumb; MAX_HOPS as usize],
 }
 
 impl Model for Trail {
@@ -80,11 +80,11 @@ impl Trail {
 pub struct Parcel {
     pub frame: FrameId,
     pub stamp: Stamp,
+    /// The flow hash at entry.
+    pub hash: u32,
     pub packet: Packet,
     pub chain: ChainId,
     /// The place in the chain's steps.
     pub cursor: u8,
-    /// The flow hash at entry.
-    pub hash: u32,
     pub trail: Trail,
 }
