@@ -9,9 +9,9 @@ use Rattle.onvm_core.specs.declared.layout.Word.TheVariants.{Cell, Post, Weight}
 use Rattle.onvm_base.specs.declared.limits.TheConstants.{MAIL_RING}
 use Rattle.onvm_core.specs.Layouts.{IsWord}
 use Rattle.onvm_board.specs.declared.regions.Regions.{Regions}
-use Rattle.onvm_board.specs.Addresses.{word_count, address, cell_address, feeders, lanes_at, outputs_at, mails_at}
+use Rattle.onvm_board.specs.Addresses.{word_count, address, cell_address, feeder_count, lanes_at, outputs_at, mails_at}
 use Rattle.onvm_board.specs.Regions.{IsRegions}
-use Rattle.onvm_board.proofs.Apart.{address_below}
+use Rattle.onvm_board.proofs.Separation.{address_below}
 
 pub word_small : (layout : Layout) (regions : Regions) (word : Word) → IsRegions layout regions → IsWord layout word
     → address layout word < 4294967296
@@ -58,7 +58,7 @@ pub cell_from : (layout : Layout) (ring : RingId) (at : ℕ)
     → cell_address layout ring 0 + at ≡ cell_address layout ring at
 cell_from layout (Lane f feeder) at =
     let a : ℕ = lanes_at layout in
-    let x : ℕ = (f.0 * feeders layout + feeder) * layout.ring in
+    let x : ℕ = (f.0 * feeder_count layout + feeder) * layout.ring in
     let goal : a + (x + 0) + at ≡ a + (x + at) = omega arith in goal
 cell_from layout (Output f) at =
     let a : ℕ = outputs_at layout in
@@ -66,5 +66,5 @@ cell_from layout (Output f) at =
     let goal : a + (x + 0) + at ≡ a + (x + at) = omega arith in goal
 cell_from layout (Mail f) at =
     let a : ℕ = mails_at layout in
-    let x : ℕ = f.0 * MAIL_CELLS in
+    let x : ℕ = f.0 * MAIL_RING in
     let goal : a + (x + 0) + at ≡ a + (x + at) = omega arith in goal

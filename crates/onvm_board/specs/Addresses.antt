@@ -8,8 +8,8 @@ use Rattle.onvm_core.specs.declared.layout.Word.TheVariants.{Pool, Cell, Post, W
 use Rattle.onvm_base.specs.declared.limits.TheConstants.{MAIL_RING}
 
 -- how many roles push on lanes
-abbrev pub feeders : Layout → ℕ
-feeders layout = layout.ports + layout.transmit
+abbrev pub feeder_count : Layout → ℕ
+feeder_count layout = layout.ports + layout.transmit
 
 -- how many words a port's part of the pool has
 abbrev pub part_words : Layout → ℕ
@@ -21,7 +21,7 @@ lanes_at layout = 1 + layout.ports * part_words layout
 
 -- the first word of the output rings
 unfoldable pub outputs_at : Layout → ℕ
-outputs_at layout = lanes_at layout + layout.functions * feeders layout * layout.ring
+outputs_at layout = lanes_at layout + layout.functions * feeder_count layout * layout.ring
 
 -- the first word of the mail rings
 unfoldable pub mails_at : Layout → ℕ
@@ -33,7 +33,7 @@ posts_at layout = mails_at layout + layout.functions * MAIL_RING
 
 -- the first word of the weights
 unfoldable pub weights_at : Layout → ℕ
-weights_at layout = posts_at layout + feeders layout
+weights_at layout = posts_at layout + feeder_count layout
 
 -- how many words a board has
 unfoldable pub word_count : Layout → ℕ
@@ -41,7 +41,7 @@ word_count layout = weights_at layout + layout.functions
 
 -- the word of a cell
 abbrev pub cell_address : Layout → RingId → ℕ → ℕ
-cell_address layout (Lane f feeder) at = lanes_at layout + ((f.0 * feeders layout + feeder) * layout.ring + at)
+cell_address layout (Lane f feeder) at = lanes_at layout + ((f.0 * feeder_count layout + feeder) * layout.ring + at)
 cell_address layout (Output f) at = outputs_at layout + (f.0 * layout.output + at)
 cell_address layout (Mail f) at = mails_at layout + (f.0 * MAIL_RING + at)
 

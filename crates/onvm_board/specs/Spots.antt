@@ -11,5 +11,5 @@ next_spot size spot =
     record { ring = spot.ring; base = spot.base; cell = (spot.cell + 1) % size; filled = min (spot.filled + 1) size }
 
 -- the spot of a ring's end that has moved nothing
-abbrev pub start_of : Layout → RingId → Spot
-start_of layout ring = record { ring = ring; base = cell_address layout ring 0; cell = 0; filled = 0 }
+abbrev pub start_spot : Layout → RingId → Spot
+start_spot layout ring = record { ring = ring; base = cell_address layout ring 0; cell = 0; filled = 0 }

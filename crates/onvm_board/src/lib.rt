@@ -14,17 +14,16 @@
 mod ask;
 mod board;
 mod closed;
-mod ground;
+mod memory;
 mod mail;
 mod make;
-mod plays;
+mod rule;
 mod pool;
 mod regions;
 mod rings;
 mod roles;
 mod slot;
 mod spot;
-mod starts;
 #[cfg(test)]
 mod tests;
 mod token;
