@@ -17,20 +17,20 @@ use Rattle.onvm_core.specs.declared.step.Step.{Step}
 use Rattle.onvm_core.specs.declared.place.Place.{Place}
 use Rattle.onvm_core.specs.declared.place.Place.TheVariants.{Ring, Role}
 use Rattle.onvm_core.specs.Layouts.{consumer, core_role}
-use Rattle.onvm_core.specs.History.{History, content_of, place_of, puts}
+use Rattle.onvm_core.specs.History.{History, content_of, place_of, place_by}
 use Rattle.onvm_core.specs.Lawful.{AllowsAct, IsLawful, Suits}
-use Rattle.onvm_core.specs.Logs.{Setting, of_port, Log, log_of, Hand, frame_after, IsNumbered}
-use Rattle.onvm_core.specs.Receiving.{ReceivePhase, receive_after, receive_phase, done_in, MayReceive, MayReceiveFor}
+use Rattle.onvm_core.specs.Logs.{Setting, entries_of_port, Log, log_of, Hand, entry_after, IsNumbered}
+use Rattle.onvm_core.specs.Receiving.{ReceivePhase, receive_after, receive_phase, done_count, MayReceive, MayReceiveFor}
 use Rattle.onvm_core.specs.Handling.{core_hand, MayHandle, crumb_place}
 use Rattle.onvm_core.specs.Sending.{SendPhase, send_phase, MaySend}
-use Rattle.onvm_core.specs.Blocks.{Kind, kind_of, MayFollow, IsOfBlocks, AllOfBlocks}
-use Rattle.onvm_core.specs.Frames.{Load, load, load_after, block_frame, begun_in}
-use Rattle.onvm_core.specs.Potential.{sum_below, is_sender, weight, waiting, potential}
+use Rattle.onvm_core.specs.Blocks.{RoleKind, kind_of, MayFollow, IsOfBlocks, AllOfBlocks}
+use Rattle.onvm_core.specs.Frames.{Load, load, load_after, block_frame, begun_count}
+use Rattle.onvm_core.specs.Potential.{sum_below, is_sender, load_potential, waiting_count, potential}
 use Rattle.onvm_base.specs.declared.ids.RingId.TheVariants.{Lane, Output, Mail}
 use Rattle.onvm_core.specs.declared.entry.Entry.{Entry}
 use Rattle.onvm_core.specs.Receiving.ReceivePhase.{Between, Asks, Seeks, Sees, Took, Barred}
 use Rattle.onvm_core.specs.Sending.SendPhase.{Free, Moves as Sending, TurnsBack}
-use Rattle.onvm_core.specs.Blocks.Kind.{Receives, Sends, Handles, Ticks, Leads}
+use Rattle.onvm_core.specs.Blocks.RoleKind.{Receives, Sends, Handles, Ticks, Leads}
 use Rattle.onvm_core.specs.Frames.Load.{Fresh, Loaded}
 use Rattle.onvm_core.proofs.Loads.{own_load, own_load_is, HasLoad, pool_load, content_loaded, IsLoaded}
 use Rattle.onvm_core.proofs.Hands.{is_kind, IsKind}
@@ -70,7 +70,7 @@ sum_falls f g (suc n) x h le =
 abbrev Lighter : Layout → ℕ → Option (ℕ × Load) → RingId → BufId → Parcel → Type 0
 Lighter layout role own ring b parcel =
     (what : Load) × (own ≡ Some (b.0, what))
-    × (weight layout (Ring ring) (Some (Loaded parcel)) ≤ weight layout (Role role) (Some what))
+    × (load_potential layout (Ring ring) (Some (Loaded parcel)) ≤ load_potential layout (Role role) (Some what))
 
 receive_lighter : (setting : Setting) (port : ℕ) (e : Entry) (phase : ReceivePhase) (own : Option (ℕ × Load))
     (ring : RingId) (b : BufId) (parcel : Parcel)
@@ -122,7 +122,8 @@ send_lighter setting feeder (Sending hand) own ring b parcel h may =
     )
 send_lighter setting feeder (TurnsBack hand r) own ring b parcel h may = absurd may
 
-lighter_by_kind : (setting : Setting) (role : ℕ) (kind : Kind) (log : Log) (ring : RingId) (b : BufId) (parcel : Parcel)
+lighter_by_kind : (setting : Setting) (role : ℕ) (kind : RoleKind) (log : Log) (ring : RingId) (b : BufId)
+    (parcel : Parcel)
     → length parcel.trail ≤ 32 → IsKind setting role kind (Push ring (Buffer b parcel) ∷ log)
     → Lighter setting.layout role (own_load setting role log) ring b parcel
 lighter_by_kind setting role Receives log ring b parcel short h =
@@ -137,8 +138,7 @@ lighter_by_kind setting role Sends log ring b parcel short h =
     (send_has setting role log h.1) h.0
 lighter_by_kind setting role Handles log ring b parcel short h =
     core_lighter setting role log (own_load setting role log) ring b parcel (core_has setting role log h.1) short h.0
-lighter_by_kind setting role Ticks log ring b parcel short h = absurd h.0
-lighter_by_kind setting role Leads log ring b parcel short h = absurd h.0
+lighter_by_kind setting role kind log ring b parcel short h = absurd h.0
 
 short_of : (layout : Layout) (past : History) (role : ℕ) (ring : RingId) (b : BufId) (parcel : Parcel)
     → Suits layout past role ring (Buffer b parcel)
@@ -149,8 +149,8 @@ short_of layout past role (Mail f) b parcel suits = absurd suits
 
 -- what is popped weighs no more than before
 popped_lighter : (layout : Layout) (ring : RingId) (parcel : Parcel)
-    → weight layout (Role (consumer layout ring)) (Some (Loaded parcel))
-    ≤ weight layout (Ring ring) (Some (Loaded parcel))
+    → load_potential layout (Role (consumer layout ring)) (Some (Loaded parcel))
+    ≤ load_potential layout (Ring ring) (Some (Loaded parcel))
     ⊎ ((f : FnId) × (ring ≡ Mail f))
 popped_lighter layout (Lane f p) parcel =
     inl (rw (le-ltb (core_role layout f.0) (layout.ports + layout.transmit) (omega arith)) (omega arith))
@@ -169,26 +169,26 @@ takes _ = 0
 abbrev Lightens : Layout → ℕ → (ℕ → Place) → (ℕ → Option Load) → ℕ → Act → Type 0
 Lightens layout role places loads n (Take b) = (b.0 < n) × (loads b.0 ≡ None)
 Lightens layout role places loads n (Push r (Buffer b parcel)) =
-    weight layout (Ring r) (Some (Loaded parcel)) ≤ weight layout (places b.0) (loads b.0)
+    load_potential layout (Ring r) (Some (Loaded parcel)) ≤ load_potential layout (places b.0) (loads b.0)
 Lightens layout role places loads n (Pop r (Buffer b parcel)) =
-    weight layout (Role role) (Some (Loaded parcel)) ≤ weight layout (places b.0) (loads b.0)
+    load_potential layout (Role role) (Some (Loaded parcel)) ≤ load_potential layout (places b.0) (loads b.0)
 Lightens layout role places loads n _ = Unit {0}
 
 abbrev heavy_after : Layout → ℕ → FrameId → Act → (ℕ → Place) → (ℕ → Option Load) → ℕ → ℕ
 heavy_after layout role fresh act places loads buf =
-    weight layout (unwrap_or (puts buf role act) (places buf)) (load_after buf fresh act (loads buf))
+    load_potential layout (unwrap_or (place_by buf role act) (places buf)) (load_after buf fresh act (loads buf))
 
 buffers_step : (layout : Layout) (role : ℕ) (fresh : FrameId) (act : Act) (places : ℕ → Place)
     (loads : ℕ → Option Load) (n : ℕ) → Lightens layout role places loads n act
     → sum_below (heavy_after layout role fresh act places loads) n
-    ≤ sum_below (λ buf. weight layout (places buf) (loads buf)) n + 66 * takes act
+    ≤ sum_below (λ buf. load_potential layout (places buf) (loads buf)) n + 66 * takes act
 buffers_step layout role fresh (Take b) places loads n facts =
     let changed : sum_below (heavy_after layout role fresh (Take b) places loads) n
-    + weight layout (places b.0) (loads b.0)
-    ≡ sum_below (λ buf. weight layout (places buf) (loads buf)) n
+    + load_potential layout (places b.0) (loads b.0)
+    ≡ sum_below (λ buf. load_potential layout (places buf) (loads buf)) n
     + heavy_after layout role fresh (Take b) places loads b.0
     = sum_change (heavy_after layout role fresh (Take b) places loads)
-    (λ buf. weight layout (places buf) (loads buf)) n b.0 facts.0
+    (λ buf. load_potential layout (places buf) (loads buf)) n b.0 facts.0
     (λ k apart. rw (ne_eqb b.0 k (λ e. apart (sym e))) refl) in
     let now : heavy_after layout role fresh (Take b) places loads b.0 ≡ 66 = rw (eq-eqb b.0 b.0 refl) refl in
     omega (arith, changed, now)
@@ -198,76 +198,83 @@ buffers_step layout role fresh (Give b outcome parcel) places loads n facts =
     omega (
       arith,
       sum_falls (heavy_after layout role fresh (Give b outcome parcel) places loads)
-          (λ buf. weight layout (places buf) (loads buf)) n b.0 (λ k apart. rw (ne_eqb b.0 k (λ e. apart (sym e))) refl)
+          (λ buf. load_potential layout (places buf) (loads buf)) n b.0
+          (λ k apart. rw (ne_eqb b.0 k (λ e. apart (sym e))) refl)
           (omega (arith, now)),
     )
 buffers_step layout role fresh (Push r (Buffer b parcel)) places loads n facts =
     let now : heavy_after layout role fresh (Push r (Buffer b parcel)) places loads b.0
-    ≡ weight layout (Ring r) (Some (Loaded parcel))
+    ≡ load_potential layout (Ring r) (Some (Loaded parcel))
     = rw (eq-eqb b.0 b.0 refl) refl in
     omega (
       arith,
       sum_falls (heavy_after layout role fresh (Push r (Buffer b parcel)) places loads)
-          (λ buf. weight layout (places buf) (loads buf)) n b.0 (λ k apart. rw (ne_eqb b.0 k (λ e. apart (sym e))) refl)
+          (λ buf. load_potential layout (places buf) (loads buf)) n b.0
+          (λ k apart. rw (ne_eqb b.0 k (λ e. apart (sym e))) refl)
           (omega (arith, now, facts)),
     )
 buffers_step layout role fresh (Pop r (Buffer b parcel)) places loads n facts =
     let now : heavy_after layout role fresh (Pop r (Buffer b parcel)) places loads b.0
-    ≡ weight layout (Role role) (Some (Loaded parcel))
+    ≡ load_potential layout (Role role) (Some (Loaded parcel))
     = rw (eq-eqb b.0 b.0 refl) refl in
     omega (
       arith,
       sum_falls (heavy_after layout role fresh (Pop r (Buffer b parcel)) places loads)
-          (λ buf. weight layout (places buf) (loads buf)) n b.0 (λ k apart. rw (ne_eqb b.0 k (λ e. apart (sym e))) refl)
+          (λ buf. load_potential layout (places buf) (loads buf)) n b.0
+          (λ k apart. rw (ne_eqb b.0 k (λ e. apart (sym e))) refl)
           (omega (arith, now, facts)),
     )
 buffers_step layout role fresh (Push r (Number m)) places loads n facts =
     omega (
       arith,
       sum_same (heavy_after layout role fresh (Push r (Number m)) places loads)
-          (λ buf. weight layout (places buf) (loads buf)) n (λ k less. refl),
+          (λ buf. load_potential layout (places buf) (loads buf)) n (λ k less. refl),
     )
 buffers_step layout role fresh (Pop r (Number m)) places loads n facts =
     omega (
       arith,
       sum_same (heavy_after layout role fresh (Pop r (Number m)) places loads)
-          (λ buf. weight layout (places buf) (loads buf)) n (λ k less. refl),
+          (λ buf. load_potential layout (places buf) (loads buf)) n (λ k less. refl),
     )
 buffers_step layout role fresh (Split a) places loads n facts =
     omega (
       arith,
-      sum_same (heavy_after layout role fresh (Split a) places loads) (λ buf. weight layout (places buf) (loads buf)) n
+      sum_same (heavy_after layout role fresh (Split a) places loads)
+          (λ buf. load_potential layout (places buf) (loads buf)) n
           (λ k less. refl),
     )
 buffers_step layout role fresh (Join a) places loads n facts =
     omega (
       arith,
-      sum_same (heavy_after layout role fresh (Join a) places loads) (λ buf. weight layout (places buf) (loads buf)) n
+      sum_same (heavy_after layout role fresh (Join a) places loads)
+          (λ buf. load_potential layout (places buf) (loads buf)) n
           (λ k less. refl),
     )
 buffers_step layout role fresh (Full a) places loads n facts =
     omega (
       arith,
-      sum_same (heavy_after layout role fresh (Full a) places loads) (λ buf. weight layout (places buf) (loads buf)) n
+      sum_same (heavy_after layout role fresh (Full a) places loads)
+          (λ buf. load_potential layout (places buf) (loads buf)) n
           (λ k less. refl),
     )
 buffers_step layout role fresh (Empty a) places loads n facts =
     omega (
       arith,
-      sum_same (heavy_after layout role fresh (Empty a) places loads) (λ buf. weight layout (places buf) (loads buf)) n
+      sum_same (heavy_after layout role fresh (Empty a) places loads)
+          (λ buf. load_potential layout (places buf) (loads buf)) n
           (λ k less. refl),
     )
 buffers_step layout role fresh (Look x y z) places loads n facts =
     omega (
       arith,
       sum_same (heavy_after layout role fresh (Look x y z) places loads)
-          (λ buf. weight layout (places buf) (loads buf)) n (λ k less. refl),
+          (λ buf. load_potential layout (places buf) (loads buf)) n (λ k less. refl),
     )
 buffers_step layout role fresh (Post x y) places loads n facts =
     omega (
       arith,
       sum_same (heavy_after layout role fresh (Post x y) places loads)
-          (λ buf. weight layout (places buf) (loads buf)) n (λ k less. refl),
+          (λ buf. load_potential layout (places buf) (loads buf)) n (λ k less. refl),
     )
 
 no_pop : (setting : Setting) (port : ℕ) (e : Entry) (phase : ReceivePhase) (act : Act) (ring : RingId) (item : Item)
@@ -293,7 +300,7 @@ no_mail setting feeder (Sending hand) f b parcel may = may
 no_mail setting feeder (TurnsBack hand r) f b parcel may = may
 
 -- no parcel is popped from a mail ring
-no_mail_parcel : (setting : Setting) (role : ℕ) (kind : Kind) (log : Log) (f : FnId) (b : BufId) (parcel : Parcel)
+no_mail_parcel : (setting : Setting) (role : ℕ) (kind : RoleKind) (log : Log) (f : FnId) (b : BufId) (parcel : Parcel)
     → MayFollow setting role kind log (Pop (Mail f) (Buffer b parcel))
     → ⊥
 no_mail_parcel setting role Receives log f b parcel may =
@@ -304,9 +311,7 @@ no_mail_parcel setting role Receives log f b parcel may =
           (Buffer b parcel) refl block.2
     ]
 no_mail_parcel setting role Sends log f b parcel may = no_mail setting role (send_phase log) f b parcel may
-no_mail_parcel setting role Handles log f b parcel may = may
-no_mail_parcel setting role Ticks log f b parcel may = may
-no_mail_parcel setting role Leads log f b parcel may = may
+no_mail_parcel setting role kind log f b parcel may = may
 
 -- lawful steps and blocks lighten
 lightens_of : (setting : Setting) (before : History) (role : ℕ) (act : Act)
@@ -317,7 +322,7 @@ lightens_of : (setting : Setting) (before : History) (role : ℕ) (act : Act)
 lightens_of setting before role (Take b) lawful allowed blocks =
     (allowed.known, pool_load setting before b.0 allowed.in_pool)
 lightens_of setting before role (Push r (Buffer b parcel)) lawful allowed blocks =
-    let kind : Kind = kind_of setting.layout role in
+    let kind : RoleKind = kind_of setting.layout role in
     let light : Lighter setting.layout role (own_load setting role (log_of role before)) r b parcel =
     lighter_by_kind setting role kind (log_of role before) r b parcel
     (short_of setting.layout before role r b parcel allowed.suits)
@@ -338,32 +343,20 @@ lightens_of setting before role (Pop r (Buffer b parcel)) lawful allowed blocks 
           (λ s. MayFollow setting role (kind_of setting.layout role) (log_of role before) (Pop s (Buffer b parcel)))
           mail.1 blocks.0))
     ])
-lightens_of setting before role (Give b outcome parcel) lawful allowed blocks = tt
-lightens_of setting before role (Push r (Number m)) lawful allowed blocks = tt
-lightens_of setting before role (Pop r (Number m)) lawful allowed blocks = tt
-lightens_of setting before role (Split a) lawful allowed blocks = tt
-lightens_of setting before role (Join a) lawful allowed blocks = tt
-lightens_of setting before role (Full a) lawful allowed blocks = tt
-lightens_of setting before role (Empty a) lawful allowed blocks = tt
-lightens_of setting before role (Look x y z) lawful allowed blocks = tt
-lightens_of setting before role (Post x y) lawful allowed blocks = tt
+lightens_of setting before role act lawful allowed blocks = tt
 
 -- Waiting frames
 
 take_begins : (setting : Setting) (port : ℕ) (e : Entry) (phase : ReceivePhase) (b : BufId)
-    → frame_after setting port (done_in phase) ≡ Some e → MayReceiveFor setting port e phase (Take b)
-    → (begun_in (receive_after setting phase (Take b)) ≡ begun_in phase + 1)
-    × (begun_in phase < length (of_port port setting.entries))
+    → entry_after setting port (done_count phase) ≡ Some e → MayReceiveFor setting port e phase (Take b)
+    → (begun_count (receive_after setting phase (Take b)) ≡ begun_count phase + 1)
+    × (begun_count phase < length (entries_of_port port setting.entries))
 take_begins setting port e (Sees done index seen) b found may =
-    (refl, slice_get_within (of_port port setting.entries) done e found)
-take_begins setting port e (Between done) b found may = absurd may
-take_begins setting port e (Asks done k) b found may = absurd may
-take_begins setting port e (Seeks done k) b found may = absurd may
-take_begins setting port e (Took done buf) b found may = absurd may
-take_begins setting port e (Barred done buf ring) b found may = absurd may
+    (refl, slice_get_within (entries_of_port port setting.entries) done e found)
+take_begins setting port e phase b found may = absurd may
 
 abbrev left_in : Setting → ℕ → ReceivePhase → ℕ
-left_in setting port phase = length (of_port port setting.entries) - begun_in phase
+left_in setting port phase = length (entries_of_port port setting.entries) - begun_count phase
 
 falls_or_stays : (setting : Setting) (port : ℕ) (log : Log) (act : Act)
     → IsNumbered setting → MayReceive setting port log act
@@ -382,9 +375,9 @@ own_waits setting port log (Take b) numbered may =
     elim may [
       | inl mark ↦ absurd mark.1
       | inr block ↦
-          let more : (begun_in (receive_after setting (receive_phase setting log) (Take b))
-          ≡ begun_in (receive_phase setting log) + 1)
-          × (begun_in (receive_phase setting log) < length (of_port port setting.entries))
+          let more : (begun_count (receive_after setting (receive_phase setting log) (Take b))
+          ≡ begun_count (receive_phase setting log) + 1)
+          × (begun_count (receive_phase setting log) < length (entries_of_port port setting.entries))
           = take_begins setting port block.0 (receive_phase setting log) b block.1 block.2 in
           omega (arith, more.0, more.1)
     ]
@@ -399,7 +392,7 @@ own_waits setting port log (Empty a) numbered may = falls_or_stays setting port 
 own_waits setting port log (Look x y z) numbered may = falls_or_stays setting port log (Look x y z) numbered may
 own_waits setting port log (Post x y) numbered may = falls_or_stays setting port log (Post x y) numbered may
 
-no_take : (setting : Setting) (role : ℕ) (kind : Kind) (log : Log) (act : Act)
+no_take : (setting : Setting) (role : ℕ) (kind : RoleKind) (log : Log) (act : Act)
     → (kind ≡ Receives → ⊥) → MayFollow setting role kind log act
     → takes act ≡ 0
 no_take setting role kind log (Take b) other may =
@@ -408,27 +401,19 @@ no_take setting role kind log (Take b) other may =
     absurd (let one : 1 ≡ 0 =
     rw (
       eq-eqb role role refl,
-      eq-eqb (done_in (receive_phase setting log) + 1) (done_in (receive_phase setting log) + 1) refl,
+      eq-eqb (done_count (receive_phase setting log) + 1) (done_count (receive_phase setting log) + 1) refl,
     ) at none in
     omega arith)
-no_take setting role kind log (Give b outcome parcel) other may = refl
-no_take setting role kind log (Push r i) other may = refl
-no_take setting role kind log (Pop r i) other may = refl
-no_take setting role kind log (Split a) other may = refl
-no_take setting role kind log (Join a) other may = refl
-no_take setting role kind log (Full a) other may = refl
-no_take setting role kind log (Empty a) other may = refl
-no_take setting role kind log (Look x y z) other may = refl
-no_take setting role kind log (Post x y) other may = refl
+no_take setting role kind log act other may = refl
 
 waiting_apart : (setting : Setting) (step : Step) (before : History) (k : ℕ) → (k ≡ step.role → ⊥)
-    → waiting setting (step ∷ before) k ≡ waiting setting before k
+    → waiting_count setting (step ∷ before) k ≡ waiting_count setting before k
 waiting_apart setting step before k apart = rw (ne_eqb step.role k (λ e. apart (sym e))) refl
 
 waiting_step : (setting : Setting) (step : Step) (before : History)
     → IsNumbered setting → AllOfBlocks setting (step ∷ before)
-    → sum_below (waiting setting (step ∷ before)) setting.layout.ports + takes step.act
-    ≤ sum_below (waiting setting before) setting.layout.ports
+    → sum_below (waiting_count setting (step ∷ before)) setting.layout.ports + takes step.act
+    ≤ sum_below (waiting_count setting before) setting.layout.ports
 waiting_step setting step before numbered blocks =
     let own : IsOfBlocks setting step.role (step.act ∷ log_of step.role before) =
     own_blocks setting step before blocks in
@@ -438,14 +423,15 @@ waiting_step setting step before numbered blocks =
           subst (λ k. MayFollow setting step.role k (log_of step.role before) step.act)
           (kind_receives setting.layout step.role known) own.0 in
           let less : step.role < setting.layout.ports = ltb-true step.role setting.layout.ports known in
-          let now : waiting setting (step ∷ before) step.role
+          let now : waiting_count setting (step ∷ before) step.role
           ≡ left_in setting step.role (receive_phase setting (step.act ∷ log_of step.role before))
           = rw (eq-eqb step.role step.role refl) refl in
           omega (
             arith,
             now,
             own_waits setting step.role (log_of step.role before) step.act numbered may,
-            sum_change (waiting setting (step ∷ before)) (waiting setting before) setting.layout.ports step.role less
+            sum_change (waiting_count setting (step ∷ before))
+                (waiting_count setting before) setting.layout.ports step.role less
                 (waiting_apart setting step before),
           )
       | inr unknown ↦
@@ -456,8 +442,9 @@ waiting_step setting step before numbered blocks =
           omega (
             arith,
             none,
-            sum_apart (waiting setting (step ∷ before))
-                (waiting setting before) setting.layout.ports step.role past_ports (waiting_apart setting step before),
+            sum_apart (waiting_count setting (step ∷ before))
+                (waiting_count setting before) setting.layout.ports step.role past_ports
+                (waiting_apart setting step before),
           )
     ]
 

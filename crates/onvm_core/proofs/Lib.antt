@@ -12,6 +12,7 @@ pub mod Hands
 pub mod Held
 pub mod HeldSteps
 pub mod Holders
+pub mod InBlock
 pub mod Lists
 pub mod Loads
 pub mod Logged
@@ -22,6 +23,7 @@ pub mod Plans
 pub mod Refused
 pub mod Sampled
 pub mod Scanned
+pub mod Steps
 pub mod Sums
 pub mod Throttling
 pub mod Traces

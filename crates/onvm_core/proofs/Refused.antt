@@ -48,18 +48,7 @@ looks (act ∷ before) = looks before
 
 more : (act : Act) (before : Log) → 0 < looks before → 0 < looks (act ∷ before)
 more (Look (Cell ring at) seen told) before some = omega arith
-more (Look (PoolWord p i) seen told) before some = some
-more (Look (PostWord k) seen told) before some = some
-more (Look (Weight g) seen told) before some = some
-more (Split a) before some = some
-more (Join a) before some = some
-more (Take b) before some = some
-more (Give b o p) before some = some
-more (Push r i) before some = some
-more (Full r) before some = some
-more (Pop r i) before some = some
-more (Empty r) before some = some
-more (Post w v) before some = some
+more act before some = some
 
 saw_some : (log : Log) → SawRoom setting f log → 0 < looks log
 saw_some log (ByLook before) = omega arith

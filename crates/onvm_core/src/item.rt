@@ -1,7 +1,7 @@
 //! Items of rings.
 ghost use Rattle.std.specs.Prelude.{◌≡◌, ◌↔◌, ◌≤◌, IsTrue, IsNone, IfSome, length, reverse, slice_get};
 ghost use Rattle.onvm_core.specs.History.{pushed_on};
-ghost use Rattle.onvm_core.specs.Words.{number_of as number_of_item};
+ghost use Rattle.onvm_core.specs.Words.{number_of};
 
 use crate::parcel::{Parcel, Trail};
 use crate::scan::same_ring;
@@ -69,7 +69,7 @@ pub fn item_at(steps: &[Step], ring: RingId, at: usize) -> Option<&Item>
 
 // What a cell shows of an item.
 pub fn number_of(item: &Item) -> u64
-    ensures { result ≡ number_of_item item.now }
+    ensures { result ≡ number_of item.now }
 {
     match item {
         Item::Buffer(b, _) => b.0 as u64 + 1,

@@ -5,16 +5,19 @@ ghost use Rattle.onvm_base.specs.declared.limits.TheConstants.{MAX_HOPS};
 use onvm_base::{ChainId, FnId, FrameId, MAX_HOPS, Packet, Stamp, Verdict};
 use std::marker::Model;
 
+/// The largest place that a crumb names; a journal that is longer doesn't stop its function.
+pub const MAX_PLACE: u32 = 4_294_967_295;
+
 /// That a function handled the frame.
 #[derive(Clone, Copy, Debug, PartialEq, Eq)]
 pub struct Crumb {
-    /// How many entries the function's journal had before, at most 4,294,967,295.
+    /// How many entries the function's journal had before, at most [`MAX_PLACE`].
     pub place: u32,
     pub function: FnId,
     pub verdict: Verdict,
 }
 
-/// The crumbs of a frame, the oldest first. There are at most 32, and they take no memory.
+/// The crumbs of a frame, the oldest first. There are at most [`MAX_HOPS`], and they take no memory.
 #[derive(Debug, Drop)]
 pub struct Trail {
     len: u8,

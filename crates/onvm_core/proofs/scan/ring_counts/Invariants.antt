@@ -1,6 +1,6 @@
 use Rattle.std.proofs.Common.{◌≡◌, ◌+◌, ◌≤◌, length, reverse, take}
 use Rattle.onvm_core.specs.History.{pushed_on, popped_from}
-use Rattle.onvm_core.proofs.scan.moved.Given as goal
+use Rattle.onvm_core.proofs.scan.ring_counts.Given as goal
 
 abbrev pub invariant-loop-step : goal.invariant-loop-step
 invariant-loop-step l = record {
