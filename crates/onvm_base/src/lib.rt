@@ -1,8 +1,8 @@
 //! The names and values that every crate of onvm speaks of.
 //!
 //! A *frame* is what a capture holds: a stamp and a packet. A *packet* is its bytes. A *record*
-//! says what became of a frame, its *outcome*. Ports, functions, chains and buffers are numbered
-//! from 0 in the order of the chain file, frames of a port from 1.
+//! says what became of a frame, its *outcome*. Numbers begin at 0: ports have the order of the
+//! captures, functions and chains that of the chain file. The frames of a port begin at 1.
 #![tactic(auto)]
 
 mod chain;
