@@ -23,7 +23,7 @@ use Rattle.onvm_core.specs.Places.{without}
 use Rattle.onvm_core.specs.Logs.{Log}
 use Rattle.onvm_board.specs.declared.spot.Spot.{Spot}
 use Rattle.onvm_board.specs.Addresses.{address, cell_address}
-use Rattle.onvm_board.specs.Known.{held_buffers}
+use Rattle.onvm_board.specs.Known.{held_buffers_in}
 use Rattle.onvm_board.specs.Rule.{HasHistory, Hand, hand_after, SeatState, MakesAct, IsLastStep, FitsRing, view_after, split_view, view_after_join, spent_view, TellsPush, TellsUnmail, TellsPop, TellsAct}
 use Rattle.onvm_board.specs.Tokens.{BoardView, TokenView, token_of, buffers_of, IsTied, MakesStep, IsTail, IsHead, IsMailRing, IsBufferRing, Carries, first_parcel, SawBit, MayPost, TellsLook, IsFirstToken, IsUnsplit, IsRoleOf}
 use Rattle.onvm_board.proofs.Bits.{take_asks, give_asks}
@@ -44,13 +44,13 @@ without_it : (b : ℕ) (held : List ℕ) → held ≡ b ∷ [] → without b hel
 without_it b held e = ap (without b) e ∙ ap (λ (t : Bool). if t then [] else b ∷ []) (eq-eqb b b refl)
 
 -- the hand stays what the log says
-held_tied : (act : Act) (log : Log) (hand : Hand) → Suiting act hand → held_buffers log ≡ buffers_of hand
-    → held_buffers (act ∷ log) ≡ buffers_of (hand_after act hand)
+held_tied : (act : Act) (log : Log) (hand : Hand) → Suiting act hand → held_buffers_in log ≡ buffers_of hand
+    → held_buffers_in (act ∷ log) ≡ buffers_of (hand_after act hand)
 held_tied (Take b) log hand suits tied = ap (λ (bufs : List ℕ). b.0 ∷ bufs) tied
 held_tied (Give b outcome parcel) log hand suits tied =
-    without_it b.0 (held_buffers log) (tied ∙ ap buffers_of suits.1)
+    without_it b.0 (held_buffers_in log) (tied ∙ ap buffers_of suits.1)
 held_tied (Push ring (Buffer b parcel)) log hand suits tied =
-    without_it b.0 (held_buffers log) (tied ∙ ap buffers_of suits.1)
+    without_it b.0 (held_buffers_in log) (tied ∙ ap buffers_of suits.1)
 held_tied (Push ring (Number n)) log hand suits tied = tied
 held_tied (Pop ring (Buffer b parcel)) log hand suits tied = ap (λ (bufs : List ℕ). b.0 ∷ bufs) tied
 held_tied (Pop ring (Number n)) log hand suits tied = tied

@@ -10,7 +10,7 @@ use Rattle.onvm_core.specs.declared.step.Act.TheVariants.{Split, Join, Take, Giv
 use Rattle.onvm_core.specs.declared.place.Place.{Place}
 use Rattle.onvm_core.specs.declared.place.Place.TheVariants.{Ring, Role}
 use Rattle.onvm_core.specs.Layouts.{bit_of, port_of, buffer_of_bit}
-use Rattle.onvm_core.specs.History.{History, place_of, puts}
+use Rattle.onvm_core.specs.History.{History, place_of, place_by}
 use Rattle.onvm_core.specs.Lawful.{IsLawful}
 use Rattle.onvm_core.specs.Words.{is_free, is_pool, pool_bits}
 use Rattle.onvm_core.proofs.Once.{Moves, named_from}
@@ -26,7 +26,7 @@ IsApart _ = Unit {0}
 
 -- such an act leaves who is in the pool
 apart_pool : (buf role : ℕ) (act : Act) (was : Place) → IsApart act → Moves buf role act was
-    → is_pool (unwrap_or (puts buf role act) was) ≡ is_pool was
+    → is_pool (unwrap_or (place_by buf role act) was) ≡ is_pool was
 apart_pool buf role (Take b) was apart moves = absurd apart
 apart_pool buf role (Give b outcome parcel) was apart moves = absurd apart
 apart_pool buf role (Push r (Buffer b parcel)) was apart moves =
@@ -91,7 +91,7 @@ bit_back layout buf =
 
 -- a test of a bit that says which buffer it is of
 free_else : (layout : Layout) (past : History) (port index bit : ℕ) (act : Act) (role buf : ℕ)
-    → puts (buffer_of_bit layout port index bit) role act ≡ None
+    → place_by (buffer_of_bit layout port index bit) role act ≡ None
     → is_free layout (step_of role act ∷ past) port index bit ≡ is_free layout past port index bit
 free_else layout past port index bit act role buf none =
     let b : ℕ = buffer_of_bit layout port index bit in
@@ -105,7 +105,7 @@ free_outside layout past port index bit out = rw out refl
 
 -- a step that names one buffer leaves the other bits
 pub free_other : (layout : Layout) (past : History) (port index bit : ℕ) (act : Act) (role buf : ℕ) → bit < 64
-    → ((other : ℕ) → other ≢ buf → puts other role act ≡ None)
+    → ((other : ℕ) → other ≢ buf → place_by other role act ≡ None)
     → ((port ≡ port_of layout buf) × (index ≡ buf % layout.buffers / 64) × (bit ≡ bit_of layout buf) → ⊥)
     → is_free layout (step_of role act ∷ past) port index bit ≡ is_free layout past port index bit
 free_other layout past port index bit act role buf below names apart =
@@ -122,7 +122,7 @@ free_other layout past port index bit act role buf below names apart =
 
 -- a word of the pool that hasn't the buffer's bit keeps its value
 pub pool_else : (layout : Layout) (past : History) (port index : ℕ) (act : Act) (role buf : ℕ)
-    → ((other : ℕ) → other ≢ buf → puts other role act ≡ None)
+    → ((other : ℕ) → other ≢ buf → place_by other role act ≡ None)
     → ((port ≡ port_of layout buf) × (index ≡ buf % layout.buffers / 64) → ⊥)
     → pool_bits layout (step_of role act ∷ past) port index ≡ pool_bits layout past port index
 unfolding pool_bits

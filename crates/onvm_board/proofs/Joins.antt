@@ -14,7 +14,7 @@ use Rattle.onvm_core.specs.Lawful.{AllowsAct, IsLawful}
 use Rattle.onvm_core.specs.Logs.{Log, log_of}
 use Rattle.onvm_board.specs.declared.view.View.{View}
 use Rattle.onvm_board.specs.Addresses.{word_count, slot_count}
-use Rattle.onvm_board.specs.Known.{held_buffers}
+use Rattle.onvm_board.specs.Known.{held_buffers_in}
 use Rattle.onvm_board.specs.Rule.{step_of, HasHistory, IsSeatOf, KeepsLogs, spent_view, view_after_join}
 use Rattle.onvm_board.proofs.Hands.{holds_none}
 use Rattle.onvm_board.proofs.Logs.{log_same, log_else}
@@ -79,7 +79,7 @@ module _ (layout : Layout) (past : History) (seat_of : ℕ → ℕ) (actor role 
 -- the first token takes back a role that holds nothing
 pub join_allowed : (layout : Layout) (id other : ℕ) (view joining : View) → view.live ≡ true
     → view.role ≡ first_role layout → joining.live ≡ true → joining.role < first_role layout
-    → held_buffers joining.log ≡ []
+    → held_buffers_in joining.log ≡ []
     → Joins (HasHistory layout) id view other joining (view_after_join view joining) spent_view
 join_allowed layout id other view joining on is_first live_too below empty state (past, seat_of, st) here apart there =
     let mine : IsSeatOf layout past seat_of id view = st.seats id view here on in
@@ -94,7 +94,7 @@ join_allowed layout id other view joining on is_first live_too below empty state
       first = is_first;
       another = below_apart role (first_role layout) below;
       live = its.live;
-      empty_handed = holds_none layout past st.lawful role (ap held_buffers (sym its.log) ∙ empty);
+      empty_handed = holds_none layout past st.lawful role (ap held_buffers_in (sym its.log) ∙ empty);
     } in
     let goes : IsLawful layout (step_of actor (Join role) ∷ past) =
     (record { live = mine.live; allowed = allowed }, st.lawful) in (

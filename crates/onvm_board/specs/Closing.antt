@@ -7,7 +7,7 @@ use Rattle.onvm_core.specs.declared.layout.Layout.{Layout}
 use Rattle.onvm_core.specs.declared.parcel.Parcel.{Parcel}
 use Rattle.onvm_core.specs.Layouts.{IsBuffer, word_of, bit_of}
 use Rattle.onvm_core.specs.History.{History, place_of}
-use Rattle.onvm_core.specs.Places.{all_below, how_many}
+use Rattle.onvm_core.specs.Places.{numbers_below, how_many}
 use Rattle.onvm_core.specs.Words.{is_pool}
 use Rattle.onvm_core.specs.Logs.{Log}
 use Rattle.onvm_board.specs.Addresses.{address, slot_count}
@@ -31,7 +31,7 @@ is_away past buf = not (is_pool (place_of buf past))
 
 -- how many buffers of a board aren't in the pool
 abbrev pub away_count : Layout → History → ℕ
-away_count layout past = how_many (is_away past) (all_below (slot_count layout))
+away_count layout past = how_many (is_away past) (numbers_below (slot_count layout))
 
 -- the bit of a buffer in these words
 abbrev pub bit_in : Layout → List ℕ → ℕ → ℕ

@@ -20,7 +20,7 @@ use Rattle.onvm_core.specs.Logs.{Log, log_of}
 use Rattle.onvm_core.specs.Potential.{pushed_in, popped_in}
 use Rattle.onvm_board.specs.declared.spot.Spot.{Spot}
 use Rattle.onvm_board.specs.Addresses.{cell_address}
-use Rattle.onvm_board.specs.Known.{held_buffers, is_split_in, post_count_in}
+use Rattle.onvm_board.specs.Known.{held_buffers_in, is_split_in, post_count_in}
 use Rattle.onvm_board.specs.Rule.{Hand, SeatState, hand_after, step_of, join_counts, AllJoined, MakesAct, IsLastStep, Telling}
 
 -- a board: which one it is, and its layout
@@ -49,8 +49,8 @@ buffers_of hand = map (λ x. x.0) hand
 
 -- the hand has just the buffers that the log says, and the roles whose logs are kept held nothing when they were joined
 pub record IsTied (log : Log) (hand : Hand) (logs : List Log) : Type 0 where
-  pub holds : held_buffers log ≡ buffers_of hand
-  pub empty : (role : ℕ) → held_buffers (slice_index_or logs role []) ≡ []
+  pub holds : held_buffers_in log ≡ buffers_of hand
+  pub empty : (role : ℕ) → held_buffers_in (slice_index_or logs role []) ≡ []
 
 -- the token after an act: the log has the act, and the hand is the act's
 abbrev pub token_after : Act → TokenView → TokenView
