@@ -1,10 +1,10 @@
 -- What a look records names no ring.
-use Rattle.std.proofs.Common.{◌≡◌, ◌≢◌, ℕ, ◌*◌, ◌%◌, ◌^◌, ◌<◌, ◌≤◌, inl, inr, ap, sym, ◌∙◌, arith, mod-lt}
-use Rattle.std.specs.Prelude.{◌==◌, min, IsBitSet}
+use Rattle.std.proofs.Common.{◌≡◌, ◌≢◌, ℕ, ◌*◌, ◌/◌, ◌%◌, ◌^◌, ◌<◌, ◌≤◌, inl, inr, ap, sym, ◌∙◌, arith, mod-lt}
+use Rattle.std.specs.Prelude.{◌==◌, bit_and, min, IsBitSet}
 use Rattle.std.specs.Int.{bit_at, trailing_zeros, w32}
 use Rattle.std.proofs.lemmas.Bool.{cases_Bool, cases_order}
 use Rattle.std.proofs.lemmas.Nat.{pow_pos, and_le_l}
-use Rattle.std.proofs.lemmas.Nat.Bits.{and_pow, bit_at-lt, bit_at-zero, bit_at_and, bit_at-trailing_zeros}
+use Rattle.std.proofs.lemmas.Nat.Bits.{and_pow, shr_and_one, bit_at-lt, bit_at-zero, bit_at_and, bit_at-trailing_zeros}
 use Rattle.onvm_base.specs.declared.ids.FrameId.{FrameId}
 use Rattle.onvm_core.specs.declared.layout.Layout.{Layout}
 use Rattle.onvm_core.specs.Lawful.{NamesRingIn}
@@ -39,6 +39,14 @@ set_of_bit n k one e =
     let above : 0 < p = pow_pos k in
     let flat : 1 * p ≡ 0 = sym (ap (λ x. x * p) one) ∙ sym (and_pow n k) ∙ e in
     absurd (omega (arith, above, flat))
+
+-- the test `(n >> k) & 1`
+pub set_of_shift : (n k : ℕ) → bit_and (n / 2 ^ k) 1 ≢ 0 → IsBitSet n k
+set_of_shift n k more =
+    let bit : ℕ = bit_at n k in
+    let small : bit < 2 = bit_at-lt n k in
+    let some : bit ≢ 0 = λ none. more (shr_and_one n k ∙ none) in
+    set_of_bit n k (let one : bit ≡ 1 = omega arith in one)
 
 both_bits : (mask seen k : ℕ) → bit_at (masked_bits mask seen) k ≡ min (bit_at (seen % 2 ^ 32) k) (bit_at mask k)
 both_bits mask seen k = bit_at_and (seen % 2 ^ 32) mask k

@@ -70,3 +70,18 @@ head_popped site spot item before after is made =
           (sym (popped_more spot.ring item before.log))
           (stands_next (ring_size site.layout spot.ring) (length (popped_in spot.ring before.log)) spot is.stands);
     })
+
+-- the same of a spot that is the next one for the ring's size
+pub tail_next : (site : BoardView) (spot next : Spot) (size : ℕ) (item : Item) (before after : TokenView)
+    → IsTail site spot before → size ≡ ring_size site.layout spot.ring → next ≡ next_spot size spot
+    → MakesStep site (Push spot.ring item) before after → IsTail site next after
+tail_next site spot next size item before after is sized moved made =
+    subst (λ (s : Spot). IsTail site s after) (sym (moved ∙ ap (λ n. next_spot n spot) sized))
+    (tail_pushed site spot item before after is made)
+
+pub head_next : (site : BoardView) (spot next : Spot) (size : ℕ) (item : Item) (before after : TokenView)
+    → IsHead site spot before → size ≡ ring_size site.layout spot.ring → next ≡ next_spot size spot
+    → MakesStep site (Pop spot.ring item) before after → IsHead site next after
+head_next site spot next size item before after is sized moved made =
+    subst (λ (s : Spot). IsHead site s after) (sym (moved ∙ ap (λ n. next_spot n spot) sized))
+    (head_popped site spot item before after is made)

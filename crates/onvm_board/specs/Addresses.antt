@@ -1,11 +1,11 @@
 -- Where the words and slots of a board lie in its table: word 0 for split and join, and then a region for each kind.
-use Rattle.std.specs.Prelude.{ℕ, ◌+◌, ◌*◌, ◌/◌}
+use Rattle.std.specs.Prelude.{ℕ, ◌+◌, ◌-◌, ◌*◌, ◌/◌}
 use Rattle.onvm_base.specs.declared.ids.RingId.{RingId}
 use Rattle.onvm_base.specs.declared.ids.RingId.TheVariants.{Lane, Output, Mail}
 use Rattle.onvm_core.specs.declared.layout.Layout.{Layout}
 use Rattle.onvm_core.specs.declared.layout.Word.{Word}
 use Rattle.onvm_core.specs.declared.layout.Word.TheVariants.{Pool, Cell, Post, Weight}
-use Rattle.onvm_base.specs.declared.limits.TheConstants.{MAIL_RING}
+use Rattle.onvm_base.specs.declared.limits.TheConstants.{MAIL_RING, WORD_BITS}
 
 -- how many roles push on lanes
 abbrev pub feeder_count : Layout → ℕ
@@ -13,7 +13,7 @@ feeder_count layout = layout.ports + layout.transmit
 
 -- how many words a port's part of the pool has
 abbrev pub part_words : Layout → ℕ
-part_words layout = (layout.buffers + 63) / 64
+part_words layout = (layout.buffers + (WORD_BITS - 1)) / WORD_BITS
 
 -- the first word of the lanes
 unfoldable pub lanes_at : Layout → ℕ

@@ -16,7 +16,7 @@ use crate::regions::Regions;
 use crate::spot::Spot;
 use crate::view::View;
 use atomic_table::{Seat, Table};
-use onvm_base::{BufId, FrameId, Outcome, PortId, RingId};
+use onvm_base::{BufId, FrameId, Outcome, PortId, RingId, WORD_BITS};
 use onvm_core::{Layout, Parcel, Word};
 use std::alloc::Global;
 
@@ -181,7 +181,7 @@ impl Memory {
         ensures { result ≡ bit_of self.now.layout buf.0 }
     {
         let (_, left) = parted(buf.0, self.layout.buffers);
-        (left % 64) as u32
+        (left % WORD_BITS) as u32
     }
 
     // The word of the pool that has a buffer's bit.
@@ -192,7 +192,7 @@ impl Memory {
     {
         let (port, left) = parted(buf.0, self.layout.buffers);
         let port = PortId(port as u8);
-        let index = (left / 64) as u8;
+        let index = (left / WORD_BITS) as u8;
         self.word(Word::Pool { port, index })
     }
 

@@ -5,7 +5,7 @@ ghost use Rattle.onvm_core.specs.declared.layout.Word.TheVariants.{Cell};
 ghost use Rattle.onvm_board.specs.Addresses.{word_count, address, cell_address};
 ghost use Rattle.onvm_board.specs.Regions.{IsRegions};
 
-use onvm_base::{MAIL_RING, RingId};
+use onvm_base::{MAIL_RING, RingId, WORD_BITS};
 use onvm_core::{Layout, Word};
 
 /// How many words a pool's part has, how many feeders there are, and where each region begins. Word
@@ -31,7 +31,7 @@ impl Regions {
     {
         let ports = layout.ports as usize;
         let functions = layout.functions as usize;
-        let parts = (layout.buffers as usize + 63) / 64;
+        let parts = (layout.buffers as usize + (WORD_BITS as usize - 1)) / WORD_BITS as usize;
         let feeders = ports + layout.transmit as usize;
         let lanes = 1 + ports * parts;
         let outputs = lanes + functions * feeders * layout.ring as usize;
