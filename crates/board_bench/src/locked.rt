@@ -1,0 +1,53 @@
+//! The locked operations of a hop with nothing around them: what no board can go below.
+ghost use Rattle.std.specs.Prelude.{◌≡◌, IfOk, length};
+ghost use Rattle.board_bench.specs.declared.boards.TheConstants.{RING};
+
+use crate::boards::RING;
+use crate::cost::{BURST, Cost};
+use onvm_base::NoMemory;
+use onvm_host::Clock;
+use std::alloc::Global;
+use std::sync::atomic::{AtomicU64, Ordering};
+
+// So many words ahead a buffer is put on the lane again.
+const IN_FLIGHT: usize = 64;
+
+/// What a swap and a compare-exchange at each of two rings cost, over bursts.
+pub fn cost_of_locked<C: Clock>(alloc: Global, clock: &C, rounds: u32) -> Result<Cost, NoMemory> {
+    let lane = cells(alloc)?;
+    let output = cells(alloc)?;
+    let mut cost = Cost::new();
+    for _ in 0..rounds {
+        let start = clock.now();
+        let sum = locked_burst(lane.as_slice(), output.as_slice());
+        cost.add(clock.now().saturating_sub(start), sum);
+    }
+    Ok(cost)
+}
+
+fn cells(alloc: Global) -> Result<Vec<AtomicU64>, NoMemory>
+    ensures { IfOk result (λ cells. length cells.items ≡ RING) }
+{
+    let mut cells = Vec::with_capacity(alloc, RING as usize)?;
+    for number in 0..RING {
+        cells.push(AtomicU64::new(u64::from(number)))?;
+    }
+    Ok(cells)
+}
+
+fn locked_burst(lane: &[AtomicU64], output: &[AtomicU64]) -> u64
+    requires lane { length lane.now ≡ RING }
+    requires output { length output.now ≡ RING }
+{
+    let mut sum = 0u64;
+    for turn in 0..BURST as usize {
+        let at = turn % RING as usize;
+        let ahead = (at + IN_FLIGHT) % RING as usize;
+        let popped = lane[at].swap(0, Ordering::SeqCst);
+        let pushed = output[at].compare_exchange(0, popped, Ordering::SeqCst, Ordering::SeqCst);
+        let popped = output[at].swap(0, Ordering::SeqCst);
+        let again = lane[ahead].compare_exchange(0, popped, Ordering::SeqCst, Ordering::SeqCst);
+        sum = sum.wrapping_add(popped).wrapping_add(pushed.unwrap_or(1)).wrapping_add(again.unwrap_or(1));
+    }
+    sum
+}
