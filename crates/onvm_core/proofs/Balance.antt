@@ -6,9 +6,9 @@ use Rattle.onvm_base.specs.declared.ids.RingId.{RingId}
 use Rattle.onvm_base.specs.declared.ids.BufId.{BufId}
 use Rattle.onvm_base.specs.declared.ids.FrameId.{FrameId}
 use Rattle.onvm_core.specs.declared.parcel.Parcel.{Parcel}
-use Rattle.onvm_core.specs.declared.step.Item.TheVariants.{Buffer, Number}
+use Rattle.onvm_core.specs.declared.step.Item.TheVariants.{Buffer}
 use Rattle.onvm_core.specs.declared.step.Act.{Act}
-use Rattle.onvm_core.specs.declared.step.Act.TheVariants.{Split, Join, Take, Give, Push, Full, Pop, Empty, Look, Post}
+use Rattle.onvm_core.specs.declared.step.Act.TheVariants.{Take, Give, Push, Pop, Look}
 use Rattle.onvm_core.specs.declared.step.Step.{Step}
 use Rattle.onvm_core.specs.History.{History, popped_from}
 use Rattle.onvm_core.specs.Lawful.{AllowsAct, IsLawful}

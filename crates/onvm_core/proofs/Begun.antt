@@ -5,7 +5,7 @@ use Rattle.std.proofs.lemmas.Bool.{cases_Bool}
 use Rattle.onvm_base.specs.declared.ids.FrameId.{FrameId}
 use Rattle.onvm_core.specs.declared.layout.Layout.{Layout}
 use Rattle.onvm_core.specs.declared.step.Act.{Act}
-use Rattle.onvm_core.specs.declared.step.Act.TheVariants.{Split, Join, Take, Give, Push, Full, Pop, Empty, Look, Post}
+use Rattle.onvm_core.specs.declared.step.Act.TheVariants.{Take, Look}
 use Rattle.onvm_core.specs.Places.{one_if}
 use Rattle.onvm_core.specs.Logs.{Setting, Log, feeder_count, entry_after, IsNumbered}
 use Rattle.onvm_core.specs.Receiving.{ReceivePhase, phase_after_ask, phase_after_seek, receive_after, receive_phase, done_count, IsBetween, IsMarkAct, MayReceive}
@@ -16,7 +16,7 @@ use Rattle.onvm_base.specs.declared.outcome.Record.{Record}
 use Rattle.onvm_base.specs.declared.ids.RingId.TheVariants.{Lane, Output, Mail}
 use Rattle.onvm_core.specs.declared.layout.Word.TheVariants.{Pool as PoolWord, Cell, Post as PostWord, Weight}
 use Rattle.onvm_core.specs.declared.entry.Entry.{Entry}
-use Rattle.onvm_core.specs.Receiving.ReceivePhase.{Between, Asks, Seeks, Sees, Took, Barred}
+use Rattle.onvm_core.specs.Receiving.ReceivePhase.{Between}
 use Rattle.onvm_core.specs.Sending.SendPhase.{Free, Moves as Sending, TurnsBack}
 use Rattle.onvm_core.specs.Blocks.RoleKind.{Receives, Sends, Handles, Ticks, Leads}
 use Rattle.onvm_core.proofs.InBlock.{InBlock, in_block}

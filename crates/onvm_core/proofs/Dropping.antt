@@ -3,7 +3,7 @@ use Rattle.std.proofs.Common.{◌≡◌, ℕ, inl, inr, [], ◌∷◌, ◌++◌,
 use Rattle.std.specs.Prelude.{◌==◌}
 use Rattle.std.proofs.lemmas.Bool.{cases_Bool}
 use Rattle.onvm_base.specs.declared.ids.RingId.{RingId}
-use Rattle.onvm_base.specs.declared.ids.RingId.TheVariants.{Lane, Output, Mail}
+use Rattle.onvm_base.specs.declared.ids.RingId.TheVariants.{Lane, Output}
 use Rattle.onvm_base.specs.declared.ids.BufId.{BufId}
 use Rattle.onvm_base.specs.declared.ids.FnId.{FnId}
 use Rattle.onvm_base.specs.declared.moves.Move.TheVariants.{End}
@@ -16,19 +16,19 @@ use Rattle.onvm_core.specs.declared.parcel.Crumb.{Crumb}
 use Rattle.onvm_core.specs.declared.step.Item.{Item}
 use Rattle.onvm_core.specs.declared.step.Item.TheVariants.{Buffer, Number}
 use Rattle.onvm_core.specs.declared.step.Act.{Act}
-use Rattle.onvm_core.specs.declared.step.Act.TheVariants.{Split, Join, Take, Give, Push, Full, Pop, Empty, Look, Post}
+use Rattle.onvm_core.specs.declared.step.Act.TheVariants.{Split, Give, Push, Full, Pop}
 use Rattle.onvm_core.specs.declared.step.Step.{Step}
 use Rattle.onvm_core.specs.History.{History, pushes, pops, content_of}
 use Rattle.onvm_core.specs.Layouts.{same_ring}
 use Rattle.onvm_core.specs.Lawful.{AllowsAct, IsLawful}
 use Rattle.onvm_core.specs.Logs.{IsHandled, Setting, Log, Hand, log_of, last_crumb}
 use Rattle.onvm_core.specs.Receiving.{ReceivePhase, receive_phase, MayReceiveFor}
-use Rattle.onvm_core.specs.Receiving.ReceivePhase.{Between, Asks, Seeks, Sees, Took, Barred}
+use Rattle.onvm_core.specs.Receiving.ReceivePhase.{Took, Barred}
 use Rattle.onvm_core.specs.Handling.{MayHandle, crumb_place}
 use Rattle.onvm_core.specs.Sending.{SendPhase, send_after, send_phase, MaySend, IsNext}
 use Rattle.onvm_core.specs.Sending.SendPhase.{Free, Moves as Sending, TurnsBack}
 use Rattle.onvm_core.specs.Blocks.{RoleKind, kind_of, MayFollow, AllOfBlocks}
-use Rattle.onvm_core.specs.Blocks.RoleKind.{Receives, Sends, Handles, Ticks, Leads}
+use Rattle.onvm_core.specs.Blocks.RoleKind.{Receives, Sends, Handles}
 use Rattle.onvm_core.specs.Earned.{IsDropped}
 use Rattle.onvm_core.proofs.Contents.{same_ring_is, content_moves}
 use Rattle.onvm_core.proofs.Balance.{blocks_before}

@@ -4,9 +4,9 @@ use Rattle.std.specs.Prelude.{◌==◌, ◌&&◌}
 use Rattle.std.proofs.lemmas.Bool.{cases_Bool, lt-ltb, le-ltb}
 use Rattle.onvm_base.specs.declared.ids.RingId.TheVariants.{Lane, Output, Mail}
 use Rattle.onvm_base.specs.declared.outcome.Record.{Record}
-use Rattle.onvm_core.specs.declared.layout.Word.TheVariants.{Pool as PoolWord, Cell, Post as PostWord, Weight}
+use Rattle.onvm_core.specs.declared.layout.Word.TheVariants.{Post as PostWord}
 use Rattle.onvm_core.specs.declared.step.Act.{Act}
-use Rattle.onvm_core.specs.declared.step.Act.TheVariants.{Split, Join, Take, Give, Push, Full, Pop, Empty, Look, Post}
+use Rattle.onvm_core.specs.declared.step.Act.TheVariants.{Take, Look}
 use Rattle.onvm_core.specs.declared.place.Place.{Place}
 use Rattle.onvm_core.specs.declared.place.Place.TheVariants.{Pool, Ring, Role}
 use Rattle.onvm_core.specs.History.{History, place_of}
@@ -16,7 +16,7 @@ use Rattle.onvm_core.specs.Logs.{Setting, Log, feeder_count, log_of, entries_of_
 use Rattle.onvm_core.specs.Receiving.{ReceivePhase, phase_after_ask, phase_after_seek, receive_after, receive_phase, done_count}
 use Rattle.onvm_core.specs.Receiving.ReceivePhase.{Between, Asks, Seeks, Sees, Took, Barred}
 use Rattle.onvm_core.specs.Blocks.{RoleKind, kind_of, AllOfBlocks}
-use Rattle.onvm_core.specs.Blocks.RoleKind.{Receives, Sends, Handles, Ticks, Leads}
+use Rattle.onvm_core.specs.Blocks.RoleKind.{Receives}
 use Rattle.onvm_core.specs.Frames.{begun_count}
 use Rattle.onvm_core.specs.Potential.{sum_below, waiting_count, potential, outside_count, ring_potential, function_potential, hand_potential, potential_of_logs}
 use Rattle.onvm_core.proofs.Loads.{pool_load}
@@ -169,8 +169,7 @@ asked_more : (setting : Setting) (done k : ℕ) (told : Option Record)
 asked_more setting done k None =
     elim (cases_Bool (k + 1 == feeder_count setting)) [
       | inl met ↦ rw met (omega arith)
-      | inr unmet ↦ rw unmet
-          (omega arith)
+      | inr unmet ↦ rw unmet (omega arith)
     ]
 asked_more setting done k (Some told) = omega arith
 

@@ -1,6 +1,6 @@
 -- Steps of which each is lawful: two frames stand in a lane whose high mark is 2, the third is throttled, the function
 -- takes the two, and the fourth is asked for in vain no more.
-use Rattle.std.proofs.Common.{◌≡◌, ℕ, [], ◌∷◌, refl, arith, Some, None}
+use Rattle.std.proofs.Common.{ℕ, [], ◌∷◌, refl, arith, Some, None}
 use Rattle.onvm_base.specs.declared.ids.RingId.TheVariants.{Lane, Output}
 use Rattle.onvm_base.specs.declared.outcome.Outcome.TheVariants.{Throttled}
 use Rattle.onvm_base.specs.declared.outcome.Record.{Record}

@@ -4,9 +4,9 @@ use Rattle.std.specs.Prelude.{◌==◌, nat_lt, unwrap_or}
 use Rattle.std.proofs.lemmas.Bool.{cases_Bool, eqb-true, eqb-false, eq-eqb, le-ltb, ltb-true, ltb-false}
 use Rattle.onvm_base.specs.declared.ids.FrameId.{FrameId}
 use Rattle.onvm_core.specs.declared.layout.Layout.{Layout}
-use Rattle.onvm_core.specs.declared.step.Item.TheVariants.{Buffer, Number}
+use Rattle.onvm_core.specs.declared.step.Item.TheVariants.{Buffer}
 use Rattle.onvm_core.specs.declared.step.Act.{Act}
-use Rattle.onvm_core.specs.declared.step.Act.TheVariants.{Split, Join, Take, Give, Push, Full, Pop, Empty, Look, Post}
+use Rattle.onvm_core.specs.declared.step.Act.TheVariants.{Take, Give, Push, Pop}
 use Rattle.onvm_core.specs.declared.place.Place.{Place}
 use Rattle.onvm_core.specs.declared.place.Place.TheVariants.{Pool, Ring, Role}
 use Rattle.onvm_core.specs.Layouts.{IsBuffer}
@@ -15,7 +15,7 @@ use Rattle.onvm_core.specs.Lawful.{AllowsAct, IsLawful}
 use Rattle.onvm_core.specs.Places.{same_place}
 use Rattle.onvm_core.specs.Logs.{Setting, Log, Hand, log_of}
 use Rattle.onvm_core.specs.Receiving.{ReceivePhase, receive_phase}
-use Rattle.onvm_core.specs.Receiving.ReceivePhase.{Between, Asks, Seeks, Sees, Took, Barred}
+use Rattle.onvm_core.specs.Receiving.ReceivePhase.{Took, Barred}
 use Rattle.onvm_core.specs.Handling.{core_hand}
 use Rattle.onvm_core.specs.Sending.{SendPhase, send_phase}
 use Rattle.onvm_core.specs.Sending.SendPhase.{Free, Moves as Sending, TurnsBack}

@@ -4,15 +4,15 @@ use Rattle.onvm_base.specs.declared.ids.RingId.{RingId}
 use Rattle.onvm_base.specs.declared.ids.BufId.{BufId}
 use Rattle.onvm_base.specs.declared.outcome.Record.{Record}
 use Rattle.onvm_base.specs.declared.outcome.Outcome.{Outcome}
-use Rattle.onvm_base.specs.declared.outcome.Outcome.TheVariants.{Sent, Dropped, Throttled, RingFull, PoolEmpty}
+use Rattle.onvm_base.specs.declared.outcome.Outcome.TheVariants.{Sent}
 use Rattle.onvm_core.specs.declared.entry.Entry.{Entry}
 use Rattle.onvm_core.specs.declared.layout.Word.{Word}
-use Rattle.onvm_core.specs.declared.layout.Word.TheVariants.{Pool as PoolWord, Cell, Post as PostWord, Weight}
+use Rattle.onvm_core.specs.declared.layout.Word.TheVariants.{Post as PostWord}
 use Rattle.onvm_core.specs.declared.parcel.Parcel.{Parcel}
 use Rattle.onvm_core.specs.declared.step.Act.{Act}
-use Rattle.onvm_core.specs.declared.step.Act.TheVariants.{Split, Join, Take, Give, Push, Full, Pop, Empty, Look, Post}
-use Rattle.onvm_core.specs.declared.step.Item.TheVariants.{Buffer, Number}
-use Rattle.onvm_core.specs.Logs.{Setting, entry_parcel}
+use Rattle.onvm_core.specs.declared.step.Act.TheVariants.{Take, Give, Push, Full, Look}
+use Rattle.onvm_core.specs.declared.step.Item.TheVariants.{Buffer}
+use Rattle.onvm_core.specs.Logs.{Setting}
 use Rattle.onvm_core.specs.Receiving.{ReceivePhase, MayAsk, MaySeek, IsLowest, MayEnter, EntersBy, MayReceiveFor}
 use Rattle.onvm_core.specs.Receiving.ReceivePhase.{Between, Asks, Seeks, Sees, Took, Barred}
 
@@ -33,24 +33,20 @@ pub data InBlock (setting : Setting) (port : ℕ) (e : Entry) : ReceivePhase →
   Leaves : (done buf : ℕ) (b : BufId) (q : ℕ) (parcel : Parcel) → MayEnter setting port e buf (Give b (Sent q) parcel)
       → InBlock setting port e (Took done buf) (Give b (Sent q) parcel)
   GivesBack : (done buf : ℕ) (ring : RingId) (b : BufId) (outcome : Outcome) (parcel : Parcel)
-      → (b.0 ≡ buf) × (outcome ≡ RingFull ring) × (parcel ≡ entry_parcel e)
+      → MayReceiveFor setting port e (Barred done buf ring) (Give b outcome parcel)
       → InBlock setting port e (Barred done buf ring) (Give b outcome parcel)
+
+asked_word : (setting : Setting) (e : Entry) (k : ℕ) (word : Word) (seen : ℕ) (told : Option Record)
+    → MayAsk setting e k word seen told
+    → word ≡ PostWord k
+asked_word setting e k word seen None may = may.0
+asked_word setting e k word seen (Some told) may = may.0
 
 pub in_block : (setting : Setting) (port : ℕ) (e : Entry) (phase : ReceivePhase) (act : Act)
     → MayReceiveFor setting port e phase act → InBlock setting port e phase act
-in_block setting port e (Between done) (Look (PostWord f) b c) may = AsksFirst done f b c may
-in_block setting port e (Between done) (Look (PoolWord f g) b None) may =
-    absurd (let off : PoolWord f g ≡ PostWord 0 = may.0 in cc)
-in_block setting port e (Between done) (Look (PoolWord f g) b (Some t)) may =
-    absurd (let off : PoolWord f g ≡ PostWord 0 = may.0 in cc)
-in_block setting port e (Between done) (Look (Cell f g) b None) may =
-    absurd (let off : Cell f g ≡ PostWord 0 = may.0 in cc)
-in_block setting port e (Between done) (Look (Cell f g) b (Some t)) may =
-    absurd (let off : Cell f g ≡ PostWord 0 = may.0 in cc)
-in_block setting port e (Between done) (Look (Weight f) b None) may =
-    absurd (let off : Weight f ≡ PostWord 0 = may.0 in cc)
-in_block setting port e (Between done) (Look (Weight f) b (Some t)) may =
-    absurd (let off : Weight f ≡ PostWord 0 = may.0 in cc)
+in_block setting port e (Between done) (Look (PostWord f) seen told) may = AsksFirst done f seen told may
+in_block setting port e (Between done) (Look word seen told) may =
+    absurd (let off : word ≡ PostWord 0 = asked_word setting e 0 word seen told may in cc)
 in_block setting port e (Asks done k) (Look a b c) may = AsksOn done k a b c may
 in_block setting port e (Seeks done k) (Look a b c) may = SeeksOn done k a b c may
 in_block setting port e (Sees done index seen) (Take a) may = Takes done index seen a may

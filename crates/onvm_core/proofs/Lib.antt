@@ -6,6 +6,7 @@ pub mod Counted
 pub mod Crowd
 pub mod Dropping
 pub mod Earning
+pub mod Endings
 pub mod Falls
 pub mod Gathered
 pub mod Hands
@@ -13,6 +14,7 @@ pub mod Held
 pub mod HeldSteps
 pub mod Holders
 pub mod InBlock
+pub mod Lighter
 pub mod Lists
 pub mod Loads
 pub mod Logged
@@ -27,5 +29,6 @@ pub mod Steps
 pub mod Sums
 pub mod Throttling
 pub mod Traces
+pub mod Trails
 pub mod Walk
 pub mod WalkLogs

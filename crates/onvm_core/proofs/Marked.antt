@@ -1,24 +1,24 @@
 -- A post with a function's bit stands only while the passes say so.
-use Rattle.std.proofs.Common.{◌≡◌, ◌≢◌, ℕ, ◌+◌, ◌/◌, ◌%◌, ◌^◌, ◌<◌, ◌≤◌, Bool, true, false, inl, inr, List, [], ◌∷◌, refl, sym, ◌∙◌, ap, subst, arith}
-use Rattle.std.specs.Prelude.{if◌then◌else◌, ◌==◌, ◌&&◌, ◌||◌, IsBitSet}
+use Rattle.std.proofs.Common.{◌≡◌, ℕ, ◌+◌, ◌/◌, ◌%◌, ◌^◌, ◌<◌, ◌≤◌, Bool, true, false, inl, inr, List, [], ◌∷◌, refl, sym, ◌∙◌, ap, subst, arith}
+use Rattle.std.specs.Prelude.{if◌then◌else◌, ◌==◌, ◌&&◌, IsBitSet}
 use Rattle.std.proofs.lemmas.Bool.{cases_Bool, and_parts, or_cases, eqb-true, eqb-false, eq-eqb, ne_eqb}
 use Rattle.std.proofs.lemmas.Nat.{bit_set_by_shift}
 use Rattle.std.proofs.lemmas.Nat.Bits.{shr_and_one, bit_at-zero}
 use Rattle.onvm_base.specs.declared.limits.TheConstants.{LAST_POST}
-use Rattle.onvm_base.specs.declared.ids.RingId.TheVariants.{Lane, Output, Mail}
+use Rattle.onvm_base.specs.declared.ids.RingId.TheVariants.{Lane}
 use Rattle.onvm_core.specs.declared.layout.Layout.{Layout}
 use Rattle.onvm_core.specs.declared.layout.Word.{Word}
-use Rattle.onvm_core.specs.declared.layout.Word.TheVariants.{Pool as PoolWord, Cell, Post as PostWord, Weight}
+use Rattle.onvm_core.specs.declared.layout.Word.TheVariants.{Cell, Post as PostWord, Weight}
 use Rattle.onvm_core.specs.declared.step.Act.{Act}
-use Rattle.onvm_core.specs.declared.step.Act.TheVariants.{Split, Join, Take, Give, Push, Full, Pop, Empty, Look, Post}
+use Rattle.onvm_core.specs.declared.step.Act.TheVariants.{Look, Post}
 use Rattle.onvm_core.specs.Layouts.{IsFeeder}
 use Rattle.onvm_core.specs.History.{History, posted_on, post_or}
 use Rattle.onvm_core.specs.Lawful.{AllowsAct, AllowsPost, IsLawful}
 use Rattle.onvm_core.specs.Logs.{Setting, Log, log_of}
-use Rattle.onvm_core.specs.Marks.{MarkLook, Pass, MarkEvents, Ages, MarkPhase, posts_so_far, last_post, pass_count, finds, is_throttled, has_bit, IsSettled, IsPaid, IsOwed, looks_of_pass, events_in, mark_after_look, mark_after, mark_phase, mark_events, MayMark, AreMarked}
+use Rattle.onvm_core.specs.Marks.{MarkLook, Pass, MarkEvents, Ages, MarkPhase, posts_so_far, last_post, finds, is_throttled, has_bit, IsSettled, IsPaid, IsOwed, looks_of_pass, IsResting, events_in, mark_after_look, mark_after, mark_phase, mark_events, MayMark, AreMarked}
 use Rattle.onvm_core.specs.Marks.MarkEvent.{Passed, Posted}
 use Rattle.onvm_core.specs.Marks.MarkPhase.{AtRest, InPass}
-use Rattle.onvm_core.specs.Earned.{IsRaised, IsRaisedUpToNow, Clears, ClearsAtOnce, IsDue, IsInPass, IsPostWithout, IsLaneLook}
+use Rattle.onvm_core.specs.Earned.{IsRaised, IsRaisedUpToNow, Clears, ClearsAtOnce, IsDue, IsPostWithout, IsLaneLook}
 use Rattle.onvm_core.specs.Earned.IsRaised.{ByPost, ByAnotherPost, ByPass}
 use Rattle.onvm_core.proofs.Lists.{if_met, if_unmet}
 
@@ -82,19 +82,33 @@ post_pays aged value before owed =
           (omega (arith, owed.more, eqb-false (posts_so_far before + 1) LAST_POST unmet)))
     ]
 
+-- Throttled after a pass
+
+found_low : (aged : Ages) (f : ℕ) (pass : Pass) (before : MarkEvents)
+    → is_throttled aged f (Passed pass ∷ before) ≡ true
+    → finds false f pass ≡ true
+found_low aged f pass before throttled = (and_parts (finds false f pass) _ throttled).0
+
+found_high : (aged : Ages) (f : ℕ) (pass : Pass) (before : MarkEvents)
+    → is_throttled aged f (Passed pass ∷ before) ≡ true → is_throttled aged f before ≡ false
+    → finds true f pass ≡ true
+found_high aged f pass before throttled fresh =
+    elim (or_cases _ (is_throttled aged f before) (and_parts (finds false f pass) _ throttled).1) [
+      | inl high ↦ (and_parts (finds true f pass) _ high).0
+      | inr again ↦ absurd (not_both (is_throttled aged f before) fresh again)
+    ]
+
+not_throttled : (aged : Ages) (f : ℕ) (pass : Pass) (before : MarkEvents) → finds false f pass ≡ false
+    → is_throttled aged f (Passed pass ∷ before) ≡ false
+not_throttled aged f pass before none = not_and (finds false f pass) _ none
+
 -- a pass that leaves no post owed found low for each function with a bit
 paid_low : (aged : Ages) (f : ℕ) (pass : Pass) (before : MarkEvents)
     → ArePaid aged (Passed pass ∷ before) → IsPaid aged (Passed pass ∷ before) → has_bit (last_post before) f ≡ true
     → finds false f pass ≡ true
 paid_low aged f pass before are paid bit =
     elim paid [
-      | inl settled ↦
-          let throttled :
-          (finds false f pass && ((finds true f pass && aged (pass_count before) f) || is_throttled aged f before))
-          ≡ true
-          = sym (settled f) ∙ bit in
-          (and_parts (finds false f pass)
-          ((finds true f pass && aged (pass_count before) f) || is_throttled aged f before) throttled).0
+      | inl settled ↦ found_low aged f pass before (sym (settled f) ∙ bit)
       | inr late ↦ absurd (not_late aged f (Passed pass ∷ before) are bit late)
     ]
 
@@ -115,29 +129,18 @@ raised_post aged f value pass before owed paid bit earlier =
           (if_met (posts_so_far before + 1 == LAST_POST) false (is_throttled aged f (Passed pass ∷ before)) met)
           chose)
       | inr unmet ↦
-          let throttled :
-          (finds false f pass && ((finds true f pass && aged (pass_count before) f) || is_throttled aged f before))
-          ≡ true
-          = sym
+          let throttled : is_throttled aged f (Passed pass ∷ before) ≡ true =
+          sym
           (if_unmet (posts_so_far before + 1 == LAST_POST) false (is_throttled aged f (Passed pass ∷ before)) unmet)
           ∙ chose in
-          let both : (finds false f pass ≡ true)
-          × (((finds true f pass && aged (pass_count before) f) || is_throttled aged f before) ≡ true)
-          = and_parts (finds false f pass)
-          ((finds true f pass && aged (pass_count before) f) || is_throttled aged f before) throttled in
+          let low : finds false f pass ≡ true = found_low aged f pass before throttled in
           let settled : IsSettled aged before =
           elim paid [ inl h ↦ h | inr late ↦ absurd (omega (arith, late, more)) ] in
           elim (cases_Bool (is_throttled aged f before)) [
             | inl already ↦
-                ByAnotherPost value (Passed pass ∷ before) bit
-                (ByPass pass before both.0 (earlier (settled f ∙ already)))
+                ByAnotherPost value (Passed pass ∷ before) bit (ByPass pass before low (earlier (settled f ∙ already)))
             | inr fresh ↦
-                elim (or_cases (finds true f pass && aged (pass_count before) f) (is_throttled aged f before) both.1) [
-                  | inl high ↦
-                      ByPost value pass before bit (settled f ∙ fresh)
-                      (and_parts (finds true f pass) (aged (pass_count before) f) high).0 both.0
-                  | inr again ↦ absurd (not_both (is_throttled aged f before) fresh again)
-                ]
+                ByPost value pass before bit (settled f ∙ fresh) (found_high aged f pass before throttled fresh) low
           ]
     ]
 
@@ -187,8 +190,7 @@ due_post aged f value (Posted other ∷ before) owed due = absurd due
 due_post aged f value (Passed pass ∷ before) owed due =
     owed.bits f
     ∙ never (posts_so_far before + 1 == LAST_POST) (is_throttled aged f (Passed pass ∷ before))
-    (not_and (finds false f pass)
-    ((finds true f pass && aged (pass_count before) f) || is_throttled aged f before) due.1)
+    (not_throttled aged f pass before due.1)
 
 -- a mark is cleared by the pass that doesn't find low
 pub cleared : (aged : Ages) (f : ℕ) (events : MarkEvents) → ArePaid aged events → Clears f events
@@ -228,15 +230,15 @@ marks_paid setting feeder aged (act ∷ before) marked =
 -- in a pass only its looks follow, and a post that is due is the next act
 once_step : (setting : Setting) (feeder : ℕ) (aged : Ages) (f : ℕ) (before : Log) (phase : MarkPhase) (act : Act)
     → ArePaid aged (events_in phase) → MayMark setting feeder aged before phase act
-    → (IsInPass phase → IsLaneLook act) × (IsDue f (events_in phase) → IsPostWithout f act)
+    → (¬ IsResting phase → IsLaneLook act) × (IsDue f (events_in phase) → IsPostWithout f act)
 once_step setting feeder aged f before (AtRest events) (Look (Cell (Lane g p) at) seen told) are may =
-    ((λ inside. absurd inside), λ due. absurd (due_paid aged f events are due may.1))
+    ((λ moving. absurd (moving tt)), λ due. absurd (due_paid aged f events are due may.1))
 once_step setting feeder aged f before (AtRest events) (Post word value) are may =
-    ((λ inside. absurd inside), λ due. due_post aged f value events may due)
+    ((λ moving. absurd (moving tt)), λ due. due_post aged f value events may due)
 once_step setting feeder aged f before (AtRest events) act are may =
-    ((λ inside. absurd inside), λ due. absurd (due_paid aged f events are due may))
+    ((λ moving. absurd (moving tt)), λ due. absurd (due_paid aged f events are due may))
 once_step setting feeder aged f before (InPass next later found events) (Look (Cell (Lane g p) at) seen told) are may =
-    ((λ inside. tt), λ due. absurd (due_paid aged f events are due may.1))
+    ((λ moving. tt), λ due. absurd (due_paid aged f events are due may.1))
 once_step setting feeder aged f before (InPass next later found events) act are may = absurd may
 
 pub cleared_at_once : (setting : Setting) (feeder : ℕ) (aged : Ages) (f : ℕ) (log : Log)
@@ -244,7 +246,7 @@ pub cleared_at_once : (setting : Setting) (feeder : ℕ) (aged : Ages) (f : ℕ)
     → ClearsAtOnce setting feeder f log
 cleared_at_once setting feeder aged f [] marked = tt
 cleared_at_once setting feeder aged f (act ∷ before) marked =
-    let step : (IsInPass (mark_phase setting feeder before) → IsLaneLook act)
+    let step : (¬ IsResting (mark_phase setting feeder before) → IsLaneLook act)
     × (IsDue f (mark_events setting feeder before) → IsPostWithout f act)
     = once_step setting feeder aged f before (mark_phase setting feeder before) act
     (marks_paid setting feeder aged before marked.1) marked.0 in

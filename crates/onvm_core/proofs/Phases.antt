@@ -14,9 +14,9 @@ use Rattle.onvm_core.specs.Blocks.{RoleKind, MayTick, MayLead}
 use Rattle.onvm_core.specs.Frames.{Load, block_frame}
 use Rattle.onvm_base.specs.declared.outcome.Record.{Record}
 use Rattle.onvm_base.specs.declared.ids.RingId.TheVariants.{Lane, Output, Mail}
-use Rattle.onvm_core.specs.declared.layout.Word.TheVariants.{Pool as PoolWord, Cell, Post as PostWord, Weight}
+use Rattle.onvm_core.specs.declared.layout.Word.TheVariants.{Cell}
 use Rattle.onvm_core.specs.declared.entry.Entry.{Entry}
-use Rattle.onvm_core.specs.Receiving.ReceivePhase.{Between, Asks, Seeks, Sees, Took, Barred}
+use Rattle.onvm_core.specs.Receiving.ReceivePhase.{Between, Took, Barred}
 use Rattle.onvm_core.specs.Sending.SendPhase.{Free, Moves as Sending, TurnsBack}
 use Rattle.onvm_core.specs.Blocks.RoleKind.{Receives, Sends, Handles, Ticks, Leads}
 use Rattle.onvm_core.specs.Frames.Load.{Fresh, Loaded}

@@ -1,5 +1,5 @@
 -- The crumbs of each parcel lead from the captured bytes to its own.
-use Rattle.std.proofs.Common.{◌≡◌, ℕ, ◌≤◌, ◌⊎◌, inl, inr, List, [], ◌∷◌, ◌++◌, length, refl, sym, ◌∙◌, ap, subst, arith, Option, Some, None}
+use Rattle.std.proofs.Common.{◌≡◌, ℕ, ◌≤◌, ◌⊎◌, inl, inr, [], ◌∷◌, length, refl, sym, ◌∙◌, ap, subst, arith, Option, Some, None}
 use Rattle.std.specs.Prelude.{slice_get, ◌==◌}
 use Rattle.std.proofs.lemmas.Bool.{cases_Bool, eq-eqb}
 use Rattle.onvm_base.specs.declared.ids.RingId.{RingId}
@@ -7,111 +7,39 @@ use Rattle.onvm_base.specs.declared.ids.BufId.{BufId}
 use Rattle.onvm_base.specs.declared.ids.FnId.{FnId}
 use Rattle.onvm_base.specs.declared.ids.FrameId.{FrameId}
 use Rattle.onvm_core.specs.declared.parcel.Parcel.{Parcel}
-use Rattle.onvm_core.specs.declared.step.Item.TheVariants.{Buffer, Number}
+use Rattle.onvm_core.specs.declared.step.Item.TheVariants.{Buffer}
 use Rattle.onvm_core.specs.declared.step.Act.{Act}
-use Rattle.onvm_core.specs.declared.step.Act.TheVariants.{Split, Join, Take, Give, Push, Full, Pop, Empty, Look, Post}
+use Rattle.onvm_core.specs.declared.step.Act.TheVariants.{Take, Give, Push, Pop}
 use Rattle.onvm_core.specs.declared.step.Step.{Step}
 use Rattle.onvm_core.specs.Layouts.{producer, core_role}
 use Rattle.onvm_core.specs.History.{History, pushed_on, popped_from}
 use Rattle.onvm_core.specs.Lawful.{AllowsAct, IsLawful}
-use Rattle.onvm_core.specs.Logs.{Setting, Log, log_of, Hand, entry_after, entry_parcel, IsHandled, push_count, last_crumb, with_cursor}
+use Rattle.onvm_core.specs.Logs.{Setting, Log, log_of, Hand, entry_after, push_count, last_crumb, with_cursor}
 use Rattle.onvm_core.specs.Receiving.{ReceivePhase, receive_phase, done_count, MayReceiveFor}
 use Rattle.onvm_core.specs.Handling.{core_hand, MayHandle, crumb_place}
 use Rattle.onvm_core.specs.Sending.{SendPhase, send_phase, MaySend}
 use Rattle.onvm_core.specs.Blocks.{RoleKind, kind_of, IsOfBlocks, AllOfBlocks}
 use Rattle.onvm_core.specs.Frames.{Load, load, load_after, block_frame}
-use Rattle.onvm_core.specs.Journals.{Handling, LeadsTo, IsTraced, Names, HasShortJournals, journal, journal_of, handlings, verdict_in, last_popped_parcel}
+use Rattle.onvm_core.specs.Journals.{IsTraced, Names, HasShortJournals, journal, journal_of, handlings, verdict_in, last_popped_parcel}
 use Rattle.onvm_base.specs.declared.outcome.Outcome.{Outcome}
 use Rattle.onvm_base.specs.declared.outcome.Outcome.TheVariants.{Sent, Dropped, Throttled, RingFull, PoolEmpty}
 use Rattle.onvm_base.specs.declared.ids.RingId.TheVariants.{Lane, Output, Mail}
 use Rattle.onvm_core.specs.declared.entry.Entry.{Entry}
-use Rattle.onvm_core.specs.Receiving.ReceivePhase.{Between, Asks, Seeks, Sees, Took, Barred}
+use Rattle.onvm_core.specs.Receiving.ReceivePhase.{Took, Barred}
 use Rattle.onvm_core.specs.Sending.SendPhase.{Free, Moves as Sending, TurnsBack}
-use Rattle.onvm_core.specs.Blocks.RoleKind.{Receives, Sends, Handles, Ticks, Leads}
+use Rattle.onvm_core.specs.Blocks.RoleKind.{Receives, Sends, Handles}
 use Rattle.onvm_core.specs.Frames.Load.{Fresh, Loaded}
 use Rattle.onvm_core.proofs.Loads.{own_load, own_load_is, HasLoad, popped_load, content_loaded}
 use Rattle.onvm_core.proofs.Hands.{is_kind, IsKind}
-use Rattle.onvm_core.specs.declared.parcel.Crumb.{Crumb}
 use Rattle.std.proofs.Common.{length-append}
 use Rattle.std.specs.Prelude.{min}
 use Rattle.std.proofs.lemmas.Option.{slice_get_within}
 use Rattle.onvm_core.proofs.Hands.{HasHand, HasSend, core_has, send_has}
 use Rattle.onvm_core.proofs.Balance.{own_blocks, blocks_before}
-use Rattle.onvm_core.proofs.Lists.{get_front, get_last, last_of_push}
 use Rattle.onvm_core.proofs.Counted.{popped_in_hand, journal_length}
-
--- Trails
-
-leads_more : (few many : FnId → List Handling) (frame : FrameId) (input : List ℕ) (trail : List Crumb) (output : List ℕ)
-    → ((f : FnId) (k : ℕ) (h : Handling) → slice_get (few f) k ≡ Some h → slice_get (many f) k ≡ Some h)
-    → LeadsTo few frame input trail output
-    → LeadsTo many frame input trail output
-leads_more few many frame input [] output grows leads = leads
-leads_more few many frame input (crumb ∷ crumbs) output grows leads = (
-  leads.0,
-  grows crumb.function crumb.place leads.0 leads.1,
-  leads.2,
-  leads.3,
-  leads.4,
-  leads_more few many frame leads.0.bytes crumbs output grows leads.5,
-)
-
-leads_on : (journals : FnId → List Handling) (frame : FrameId) (input : List ℕ) (trail : List Crumb)
-    (middle output : List ℕ) (crumb : Crumb) (h : Handling)
-    → LeadsTo journals frame input trail middle → slice_get (journals crumb.function) crumb.place ≡ Some h
-    → h.before.frame ≡ frame → h.verdict ≡ crumb.verdict → h.before.packet ≡ middle → output ≡ h.bytes
-    → LeadsTo journals frame input (trail ++ crumb ∷ []) output
-leads_on journals frame input [] middle output crumb h leads found of verdict bytes last =
-    (h, found, of, verdict, bytes ∙ leads, last)
-leads_on journals frame input (c ∷ cs) middle output crumb h leads found of verdict bytes last = (
-  leads.0,
-  leads.1,
-  leads.2,
-  leads.3,
-  leads.4,
-  leads_on journals frame leads.0.bytes cs middle output crumb h leads.5 found of verdict bytes last,
-)
-
--- journals only grow
-journal_grows : (setting : Setting) (step : Step) (before : History) (f : FnId) (k : ℕ) (h : Handling)
-    → slice_get (journal_of setting before f) k ≡ Some h
-    → slice_get (journal_of setting (step ∷ before) f) k ≡ Some h
-journal_grows setting step before f k h e =
-    elim (cases_Bool (step.role == core_role setting.layout f.0)) [
-      | inl met ↦
-          rw met (get_front (journal_of setting before f)
-          (handlings f step.act (log_of (core_role setting.layout f.0) before)) k h e)
-      | inr unmet ↦ rw unmet e
-    ]
-
-traced_on : (setting : Setting) (step : Step) (before : History) (parcel : Parcel) → IsTraced setting before parcel
-    → IsTraced setting (step ∷ before) parcel
-traced_on setting step before parcel traced = record {
-  entry = traced.entry;
-  port = traced.port;
-  done = traced.done;
-  captured = traced.captured;
-  frame = traced.frame;
-  leads =
-      leads_more (journal_of setting before)
-      (journal_of setting (step ∷ before)) parcel.frame traced.entry.packet parcel.trail parcel.packet
-      (journal_grows setting step before) traced.leads;
-}
+use Rattle.onvm_core.proofs.Trails.{Enters, Handled, entered_traced, entry_added, handled_traced, log_on, moved_traced, traced_on}
 
 -- Where a pushed parcel comes from
-
-abbrev Enters : Setting → Parcel → Type 0
-Enters setting parcel =
-    (e : Entry) × (port : ℕ) × (done : ℕ) × (entry_after setting port done ≡ Some e) × (parcel ≡ entry_parcel e)
-
-record Handled (own : Option (ℕ × Load)) (log : Log) (ring : RingId) (b : BufId) (parcel : Parcel) : Type 0 where
-  function : FnId
-  hand : Hand
-  ring_is : ring ≡ Output function
-  held_is : core_hand log ≡ Some hand
-  same : hand.buf ≡ b.0
-  owns : own ≡ Some (b.0, Loaded hand.parcel)
-  handled : IsHandled function (crumb_place function log) hand.parcel parcel
 
 abbrev Moved : Option (ℕ × Load) → BufId → Parcel → Type 0
 Moved own b parcel =
@@ -176,95 +104,6 @@ comes_from setting role Handles log ring b parcel h =
       comes_core setting role log (own_load setting role log) ring b parcel (core_has setting role log h.1) h.0,
     ))
 comes_from setting role kind log ring b parcel h = absurd h.0
-
-log_on : (role : ℕ) (step : Step) (before : History) (act : Act) → step.act ≡ act → step.role ≡ role
-    → log_of role (step ∷ before) ≡ act ∷ log_of step.role before
-log_on role step before act acts same =
-    rw (eq-eqb step.role role same, acts) (ap (λ (n : ℕ). act ∷ log_of n before) (sym same))
-
--- a trail with one more crumb, whose entry the journal has
-extended : (setting : Setting) (past : History) (was parcel : Parcel) (crumb : Crumb) (h : Handling)
-    → IsTraced setting past was → slice_get (journal_of setting past crumb.function) crumb.place ≡ Some h
-    → h.before ≡ was → h.verdict ≡ crumb.verdict → parcel.packet ≡ h.bytes → parcel.frame ≡ was.frame
-    → parcel.trail ≡ was.trail ++ crumb ∷ []
-    → IsTraced setting past parcel
-extended setting past was parcel crumb h traced found of verdict bytes frame trail = record {
-  entry = traced.entry;
-  port = traced.port;
-  done = traced.done;
-  captured = traced.captured;
-  frame = traced.frame ∙ sym frame;
-  leads =
-      rw (trail, frame) (leads_on
-      (journal_of setting past) was.frame traced.entry.packet was.trail was.packet parcel.packet crumb h traced.leads
-      found
-      (ap (λ (p : Parcel). p.frame) of) verdict (ap (λ (p : Parcel). p.packet) of) bytes);
-}
-
--- the entry that a push on an output ring adds to the journal
-entry_added : (f : FnId) (log : Log) (b : BufId) (parcel was : Parcel) (n : ℕ)
-    → last_popped_parcel b.0 log ≡ Some was → length (journal f log) ≡ n
-    → slice_get (journal f (Push (Output f) (Buffer b parcel) ∷ log)) n
-    ≡ Some (record { before = was; verdict = verdict_in (last_crumb parcel.trail); bytes = parcel.packet })
-entry_added f log b parcel was n has long =
-    let h : Handling = record { before = was; verdict = verdict_in (last_crumb parcel.trail); bytes = parcel.packet } in
-    let added : handlings f (Push (Output f) (Buffer b parcel)) log ≡ h ∷ [] = rw (eq-eqb f.0 f.0 refl, has) refl in
-    subst (λ (k : ℕ). slice_get (journal f log ++ handlings f (Push (Output f) (Buffer b parcel)) log) k ≡ Some h) long
-    (subst (λ (hs : List Handling). slice_get (journal f log ++ hs) (length (journal f log)) ≡ Some h) (sym added)
-    (get_last (journal f log) h))
-
--- the verdict of the last crumb
-verdict_added : (trail before : List Crumb) (crumb : Crumb) → trail ≡ before ++ crumb ∷ []
-    → verdict_in (last_crumb trail) ≡ crumb.verdict
-verdict_added trail before crumb e =
-    ap (λ (t : List Crumb). verdict_in (last_crumb t)) e ∙ ap verdict_in (last_of_push before crumb)
-
--- the parcel that a function pushed is traced where the popped one was
-handled_traced : (setting : Setting) (step : Step) (before : History) (f : FnId) (hand : Hand) (b : BufId)
-    (parcel : Parcel) (n : ℕ)
-    → step.act ≡ Push (Output f) (Buffer b parcel) → step.role ≡ core_role setting.layout f.0
-    → last_popped_parcel b.0 (log_of step.role before) ≡ Some hand.parcel
-    → length (journal f (log_of step.role before)) ≡ n
-    → IsHandled f n hand.parcel parcel → IsTraced setting before hand.parcel
-    → IsTraced setting (step ∷ before) parcel
-handled_traced setting step before f hand b parcel n acts role has long handled traced =
-    extended setting (step ∷ before) hand.parcel parcel
-    (record { function = f; place = n; verdict = handled.verdict })
-    (record { before = hand.parcel; verdict = verdict_in (last_crumb parcel.trail); bytes = parcel.packet })
-    (traced_on setting step before hand.parcel traced)
-    (subst (λ (l : Log). slice_get (journal f l) n
-    ≡ Some (record { before = hand.parcel; verdict = verdict_in (last_crumb parcel.trail); bytes = parcel.packet }))
-    (sym (log_on (core_role setting.layout f.0) step before (Push (Output f) (Buffer b parcel)) acts role))
-    (entry_added f (log_of step.role before) b parcel hand.parcel n has long))
-    refl
-    (verdict_added parcel.trail hand.parcel.trail (record { function = f; place = n; verdict = handled.verdict })
-    (ap (λ (p : Parcel). p.trail) handled.same))
-    refl
-    (ap (λ (p : Parcel). p.frame) handled.same)
-    (ap (λ (p : Parcel). p.trail) handled.same)
-
-moved_traced : (setting : Setting) (past : History) (was parcel : Parcel)
-    → parcel.frame ≡ was.frame → parcel.trail ≡ was.trail → parcel.packet ≡ was.packet → IsTraced setting past was
-    → IsTraced setting past parcel
-moved_traced setting past was parcel frame trail packet traced = record {
-  entry = traced.entry;
-  port = traced.port;
-  done = traced.done;
-  captured = traced.captured;
-  frame = traced.frame ∙ sym frame;
-  leads = rw (frame, trail, packet) traced.leads;
-}
-
-entered_traced : (setting : Setting) (past : History) (parcel : Parcel) → Enters setting parcel
-    → IsTraced setting past parcel
-entered_traced setting past parcel enters = record {
-  entry = enters.0;
-  port = enters.1;
-  done = enters.2;
-  captured = enters.3;
-  frame = sym (ap (λ (p : Parcel). p.frame) enters.4);
-  leads = rw enters.4 refl;
-}
 
 -- the place of an entry that a short journal gets fits a crumb
 entry_fits : (setting : Setting) (step : Step) (before : History) (f : FnId) (b : BufId) (parcel was : Parcel)

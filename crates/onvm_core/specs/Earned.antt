@@ -1,5 +1,5 @@
 -- What each record tells, and that it is true: throttles and overflows are earned, drops and sends are the move's.
-use Rattle.std.specs.Prelude.{ℕ, zero, suc, ◌≡◌, ◌≢◌, ◌+◌, ◌*◌, ◌/◌, ◌^◌, ◌≤◌, ◌⊎◌, true, false, [], ◌∷◌, Some, None}
+use Rattle.std.specs.Prelude.{ℕ, zero, suc, ◌≡◌, ◌+◌, ◌*◌, ◌/◌, ◌^◌, ◌≤◌, ◌⊎◌, true, false, [], ◌∷◌, Some, None}
 use Rattle.onvm_base.specs.declared.limits.TheConstants.{WORD_BITS}
 use Rattle.onvm_base.specs.declared.ids.FnId.{FnId}
 use Rattle.onvm_base.specs.declared.ids.RingId.{RingId}
@@ -21,9 +21,8 @@ use Rattle.onvm_core.specs.Words.{value_of}
 use Rattle.onvm_core.specs.Logs.{Setting, Log, log_of, last_crumb}
 use Rattle.onvm_core.specs.Receiving.{IsThrottleRecord}
 use Rattle.onvm_core.specs.Sending.{IsNext}
-use Rattle.onvm_core.specs.Marks.{MarkEvent, MarkEvents, MarkPhase, Pass, Ages, IsPaid, finds, has_bit, last_post, mark_events, mark_phase}
+use Rattle.onvm_core.specs.Marks.{MarkEvent, MarkEvents, Pass, Ages, IsPaid, IsResting, finds, has_bit, last_post, mark_events, mark_phase}
 use Rattle.onvm_core.specs.Marks.MarkEvent.{Passed, Posted}
-use Rattle.onvm_core.specs.Marks.MarkPhase.{AtRest, InPass}
 
 -- Throttles
 
@@ -77,10 +76,6 @@ Clears f (event ∷ before) = (IsDue f before → IsWithout f event) × Clears f
 
 -- The same in the log: a pass is made without a break, and the post that clears a mark is the very next act
 
-abbrev pub IsInPass : MarkPhase → Type 0
-IsInPass (AtRest events) = ⊥
-IsInPass (InPass next later found events) = Unit {0}
-
 abbrev pub IsPostWithout : ℕ → Act → Type 0
 IsPostWithout f (Post word value) = has_bit value f ≡ false
 IsPostWithout f _ = ⊥
@@ -92,7 +87,7 @@ IsLaneLook _ = ⊥
 abbrev pub ClearsAtOnce : Setting → (feeder function : ℕ) → Log → Type 0
 ClearsAtOnce setting feeder f [] = Unit {0}
 ClearsAtOnce setting feeder f (act ∷ before) =
-    (IsInPass (mark_phase setting feeder before) → IsLaneLook act)
+    (¬ IsResting (mark_phase setting feeder before) → IsLaneLook act)
     × (IsDue f (mark_events setting feeder before) → IsPostWithout f act)
     × ClearsAtOnce setting feeder f before
 

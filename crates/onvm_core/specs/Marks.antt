@@ -127,6 +127,11 @@ abbrev pub events_in : MarkPhase → MarkEvents
 events_in (AtRest events) = events
 events_in (InPass next later found events) = events
 
+-- no pass is unfinished
+abbrev pub IsResting : MarkPhase → Type 0
+IsResting (AtRest events) = Unit {0}
+IsResting (InPass next later found events) = ⊥
+
 -- the looks that are left of the pass that the feeder is in, or all of a new one
 abbrev pub looks_left : Setting → ℕ → Log → MarkPhase → List MarkLook
 looks_left setting feeder before (AtRest events) = looks_of_pass setting feeder before

@@ -8,7 +8,6 @@ use crate::scan::same_ring;
 use crate::step::{Act, Item, Step};
 use onvm_base::RingId;
 
-// Whether two trails are one.
 fn same_trail(one: &Trail, other: &Trail) -> bool
     ensures { IsTrue result ↔ (one.now ≡ other.now) }
 {
@@ -23,7 +22,6 @@ fn same_trail(one: &Trail, other: &Trail) -> bool
     true
 }
 
-// Whether two parcels are one.
 fn same_parcel(one: &Parcel, other: &Parcel) -> bool
     ensures { IsTrue result ↔ (one.now ≡ other.now) }
 {
@@ -36,7 +34,6 @@ fn same_parcel(one: &Parcel, other: &Parcel) -> bool
         && same_trail(&one.trail, &other.trail)
 }
 
-// Whether two items are one.
 pub fn same_item(one: &Item, other: &Item) -> bool
     ensures { IsTrue result ↔ (one.now ≡ other.now) }
 {

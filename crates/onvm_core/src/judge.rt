@@ -13,28 +13,24 @@ use crate::step::{Act, Item, Step};
 use crate::word::{is_word, value_of};
 use onvm_base::{BufId, MAX_HOPS, Outcome, PortId, Record, RingId, WORD_BITS};
 
-// The role of the first token.
 fn first_role(layout: &Layout) -> u32
     ensures { result ≡ first_role layout.now }
 {
     tick_role(layout) + 1
 }
 
-// Whether the role is live.
 pub fn is_live(layout: &Layout, steps: &[Step], role: u32) -> bool
     ensures { result ≡ is_live layout.now role (reverse steps.now) }
 {
     role == first_role(layout) || is_split(steps, role)
 }
 
-// Whether the layout has the buffer.
 pub fn is_buffer(layout: &Layout, buf: BufId) -> bool
     ensures { IsTrue result ↔ IsBuffer layout.now buf.0 }
 {
     (buf.0 as u32) < layout.ports as u32 * layout.buffers as u32
 }
 
-// Whether the place is that of the role.
 fn is_role(place: Place, role: u32) -> bool
     ensures { IsTrue result ↔ (place ≡ Place.Role role) }
 {
@@ -44,14 +40,12 @@ fn is_role(place: Place, role: u32) -> bool
     }
 }
 
-// Whether the role holds the buffer.
 fn holds(layout: &Layout, steps: &[Step], role: u32, buf: BufId) -> bool
     ensures { IsTrue result ↔ Holds layout.now (reverse steps.now) role buf.0 }
 {
     is_buffer(layout, buf) && is_role(place_of(steps, buf), role)
 }
 
-// Whether the role holds no buffer.
 fn holds_nothing(layout: &Layout, steps: &[Step], role: u32) -> bool
     requires { IsLayout layout.now }
     ensures { IsTrue result ↔ HoldsNothing layout.now (reverse steps.now) role }
@@ -80,7 +74,6 @@ fn allows_join(layout: &Layout, steps: &[Step], role: u32, other: u32) -> bool
         && holds_nothing(layout, steps, other)
 }
 
-// Whether the look showed the bit of the buffer.
 fn showed(layout: &Layout, buf: BufId, look: Option<(Word, u64)>) -> bool
     requires ranges { IsLayout layout.now }
     requires known { IsBuffer layout.now buf.0 }
@@ -223,7 +216,6 @@ fn allows_post(layout: &Layout, steps: &[Step], role: u32, word: Word, new: u64)
     }
 }
 
-// Whether these steps allow the role the act.
 fn allows_act(layout: &Layout, steps: &[Step], role: u32, act: &Act) -> bool
     requires { IsLayout layout.now }
     ensures { IsTrue result ↔ AllowsAct layout.now (reverse steps.now) role act.now }
@@ -242,7 +234,6 @@ fn allows_act(layout: &Layout, steps: &[Step], role: u32, act: &Act) -> bool
     }
 }
 
-// Whether these steps allow the step.
 pub fn allows(layout: &Layout, steps: &[Step], step: &Step) -> bool
     requires { IsLayout layout.now }
     ensures { IsTrue result ↔ Allows layout.now (reverse steps.now) step.now }

@@ -5,7 +5,6 @@ ghost use Rattle.onvm_core.specs.Layouts.{IsLayout, IsRing, consumer, core_role,
 use crate::layout::Layout;
 use onvm_base::{FnId, MAIL_RING, RingId};
 
-// Whether the layout has the ring.
 pub fn is_ring(layout: &Layout, ring: RingId) -> bool
     ensures { IsTrue result ↔ IsRing layout.now ring }
 {
@@ -17,7 +16,6 @@ pub fn is_ring(layout: &Layout, ring: RingId) -> bool
     }
 }
 
-// How many items the ring takes.
 pub fn ring_size(layout: &Layout, ring: RingId) -> u16
     ensures { result ≡ ring_size layout.now ring }
 {
@@ -28,7 +26,6 @@ pub fn ring_size(layout: &Layout, ring: RingId) -> u16
     }
 }
 
-// The role of the core of a function.
 fn core_role(layout: &Layout, f: FnId) -> u32
     requires ranges { IsLayout layout.now }
     requires known { f.0 < layout.now.functions }
@@ -38,7 +35,6 @@ fn core_role(layout: &Layout, f: FnId) -> u32
     layout.ports as u32 + layout.transmit as u32 + core as u32
 }
 
-// The tick role.
 pub fn tick_role(layout: &Layout) -> u32
     ensures { result ≡ tick_role layout.now }
 {

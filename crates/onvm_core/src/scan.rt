@@ -8,7 +8,6 @@ use crate::place::Place;
 use crate::step::{Act, Item, Step};
 use onvm_base::{BufId, RingId};
 
-// Whether two rings are one.
 pub fn same_ring(one: RingId, other: RingId) -> bool
     ensures { result ≡ same_ring one other }
 {
@@ -20,7 +19,6 @@ pub fn same_ring(one: RingId, other: RingId) -> bool
     }
 }
 
-// Whether two words are one.
 pub fn same_word(one: Word, other: Word) -> bool
     ensures { result ≡ same_word one other }
 {
@@ -72,7 +70,6 @@ fn split_by(act: &Act, role: u32, was: bool) -> bool
     }
 }
 
-// Whether the role is split after these steps.
 pub fn is_split(steps: &[Step], role: u32) -> bool
     ensures { result ≡ is_split role (reverse steps.now) }
 {

@@ -13,7 +13,6 @@ use crate::scan::{place_of, posted_on, ring_counts};
 use crate::step::Step;
 use onvm_base::{BufId, PortId, RingId, WORD_BITS};
 
-// Whether the layout has the word.
 pub fn is_word(layout: &Layout, word: Word) -> bool
     ensures { IsTrue result ↔ IsWord layout.now word }
 {
@@ -72,7 +71,6 @@ fn cell_value(steps: &[Step], ring: RingId, size: u16, at: u16) -> u64
     0
 }
 
-// The value of a word.
 pub fn value_of(layout: &Layout, steps: &[Step], word: Word) -> u64
     requires ranges { IsLayout layout.now }
     requires known { IsWord layout.now word }
