@@ -6,7 +6,9 @@ ghost use Rattle.onvm_core.specs.Layouts.{IsLayout};
 ghost use Rattle.onvm_board.specs.Tokens.{IsHead, IsTail};
 ghost use Rattle.board_bench.specs.Stages.{IsCore, IsSized, IsTransmit};
 
-use crate::calls::{Mail, cost_of_judges, cost_of_looks, cost_of_mails, cost_of_posts, cost_of_takes};
+use crate::calls::{
+    Mail, cost_of_judges, cost_of_looks, cost_of_mails, cost_of_posts, cost_of_takes,
+};
 use crate::cost::Cost;
 use crate::hops::{Stage, cost_of_hops, give_up, prime};
 use onvm_base::{
@@ -100,8 +102,16 @@ pub fn measure_calls(rt: &HostRuntime, functions: u8, rounds: u32) -> Result<(),
         index: 0,
     };
     let parcel = parcel(rt.alloc(), 1)?;
-    cost_of_takes(&board, &clock, &mut receive, BufId(0), word, &parcel, rounds)
-        .print(rt, "look, take and give");
+    cost_of_takes(
+        &board,
+        &clock,
+        &mut receive,
+        BufId(0),
+        word,
+        &parcel,
+        rounds,
+    )
+    .print(rt, "look, take and give");
     Ok(())
 }
 
@@ -149,7 +159,13 @@ pub fn measure_hops(rt: &HostRuntime, functions: u8, rounds: u32) -> Result<Cost
 }
 
 // Parcels with the first buffers go on the receive role's lane.
-fn fill(alloc: Global, board: &Board, mut token: Token, entry: Spot, function: FnId) -> Result<(), NoMemory>
+fn fill(
+    alloc: Global,
+    board: &Board,
+    mut token: Token,
+    entry: Spot,
+    function: FnId,
+) -> Result<(), NoMemory>
     requires sized { IsSized board.now }
     requires pool { (board.now.layout.ports ≡ 1) × (board.now.layout.buffers ≡ RING) }
     requires tail { IsTail board.now entry token }
@@ -160,13 +176,27 @@ fn fill(alloc: Global, board: &Board, mut token: Token, entry: Spot, function: F
     let mut spot = entry;
     for number in 0..IN_FLIGHT {
         let parcel = parcel(alloc, u32::from(number))?;
-        put(board, &mut token, &mut spot, function, BufId(number), parcel);
+        put(
+            board,
+            &mut token,
+            &mut spot,
+            function,
+            BufId(number),
+            parcel,
+        );
     }
     Ok(())
 }
 
 // A parcel goes on a lane with a buffer of the pool's first word, where the pool has it.
-fn put(board: &Board, token: &mut Token, spot: &mut Spot, function: FnId, buf: BufId, parcel: Parcel)
+fn put(
+    board: &Board,
+    token: &mut Token,
+    spot: &mut Spot,
+    function: FnId,
+    buf: BufId,
+    parcel: Parcel,
+)
     requires sized { IsSized board.now }
     requires pool { (board.now.layout.ports ≡ 1) × (board.now.layout.buffers ≡ RING) }
     requires tail { IsTail board.now spot.old token.old }
@@ -215,7 +245,14 @@ fn go_round(
 {
     let clock = SysClock::make(*rt);
     let crumb = crumb(function);
-    prime(board, &mut core, &mut transmit, own, crumb, u32::from(IN_FLIGHT));
+    prime(
+        board,
+        &mut core,
+        &mut transmit,
+        own,
+        crumb,
+        u32::from(IN_FLIGHT),
+    );
     let Stage { token, onto, .. } = core;
     let mut core = Stage {
         token,

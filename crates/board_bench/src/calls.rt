@@ -75,7 +75,12 @@ fn judge_burst(board: &Board, token: &mut Token, feeder: u8) -> u64
     };
     let mut sum = 0u64;
     for _ in 0..BURST {
-        let seen = board.judge(token, Word::Post(feeder), frame, Ask::Hold { feeder, mask: 1 });
+        let seen = board.judge(
+            token,
+            Word::Post(feeder),
+            frame,
+            Ask::Hold { feeder, mask: 1 },
+        );
         sum = sum.wrapping_add(seen);
     }
     sum

@@ -35,6 +35,11 @@ impl Cost {
     /// Prints the time of one call in the fastest burst.
     pub fn print(&self, rt: &HostRuntime, name: &str) {
         let tenths = self.least.saturating_mul(10) / u64::from(BURST);
-        let _ = println!(rt; "{name}: {}.{} ns, sum {}", tenths / 10, tenths % 10, self.sum);
+        let _ = println!(rt;
+            "{name}: {}.{} ns, sum {}",
+            tenths / 10,
+            tenths % 10,
+            self.sum
+        );
     }
 }

@@ -61,7 +61,14 @@ fn hop_burst(board: &Board, core: &mut Stage, transmit: &mut Stage, crumb: Crumb
 }
 
 /// Moves buffers from the receive role's lane to the transmit role's, so many times.
-pub fn prime(board: &Board, core: &mut Stage, transmit: &mut Stage, own: Spot, crumb: Crumb, rounds: u32)
+pub fn prime(
+    board: &Board,
+    core: &mut Stage,
+    transmit: &mut Stage,
+    own: Spot,
+    crumb: Crumb,
+    rounds: u32,
+)
     requires sized { IsSized board.now }
     requires core { IsCore board.now crumb.function.0 0 core.old }
     requires transmit { IsTransmit board.now crumb.function.0 1 transmit.old }

@@ -9,13 +9,13 @@ use onvm_host::Clock;
 use std::alloc::Global;
 use std::sync::atomic::{AtomicU64, Ordering};
 
-// So many words ahead a buffer is put on the lane again.
-const IN_FLIGHT: usize = 64;
+// An item goes back on the lane so many cells ahead.
+const IN_FLIGHT: u16 = 64;
 
 /// What a swap and a compare-exchange at each of two rings cost, over bursts.
 pub fn cost_of_locked<C: Clock>(alloc: Global, clock: &C, rounds: u32) -> Result<Cost, NoMemory> {
-    let lane = cells(alloc)?;
-    let output = cells(alloc)?;
+    let lane = cells(alloc, IN_FLIGHT)?;
+    let output = cells(alloc, 0)?;
     let mut cost = Cost::new();
     for _ in 0..rounds {
         let start = clock.now();
@@ -25,12 +25,14 @@ pub fn cost_of_locked<C: Clock>(alloc: Global, clock: &C, rounds: u32) -> Result
     Ok(cost)
 }
 
-fn cells(alloc: Global) -> Result<Vec<AtomicU64>, NoMemory>
+// The cells of a ring that has so many items.
+fn cells(alloc: Global, items: u16) -> Result<Vec<AtomicU64>, NoMemory>
     ensures { IfOk result (λ cells. length cells.items ≡ RING) }
 {
     let mut cells = Vec::with_capacity(alloc, RING as usize)?;
     for number in 0..RING {
-        cells.push(AtomicU64::new(u64::from(number)))?;
+        let item = if number < items { number + 1 } else { 0 };
+        cells.push(AtomicU64::new(u64::from(item)))?;
     }
     Ok(cells)
 }
@@ -42,12 +44,15 @@ fn locked_burst(lane: &[AtomicU64], output: &[AtomicU64]) -> u64
     let mut sum = 0u64;
     for turn in 0..BURST as usize {
         let at = turn % RING as usize;
-        let ahead = (at + IN_FLIGHT) % RING as usize;
+        let ahead = (at + IN_FLIGHT as usize) % RING as usize;
         let popped = lane[at].swap(0, Ordering::SeqCst);
         let pushed = output[at].compare_exchange(0, popped, Ordering::SeqCst, Ordering::SeqCst);
         let popped = output[at].swap(0, Ordering::SeqCst);
         let again = lane[ahead].compare_exchange(0, popped, Ordering::SeqCst, Ordering::SeqCst);
-        sum = sum.wrapping_add(popped).wrapping_add(pushed.unwrap_or(1)).wrapping_add(again.unwrap_or(1));
+        sum = sum
+            .wrapping_add(popped)
+            .wrapping_add(pushed.unwrap_or(1))
+            .wrapping_add(again.unwrap_or(1));
     }
     sum
 }

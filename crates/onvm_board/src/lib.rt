@@ -14,14 +14,14 @@
 mod ask;
 mod board;
 mod closed;
-mod memory;
 mod mail;
 mod make;
-mod rule;
+mod memory;
 mod pool;
 mod regions;
 mod rings;
 mod roles;
+mod rule;
 mod slot;
 mod spot;
 #[cfg(test)]

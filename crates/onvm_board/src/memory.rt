@@ -11,8 +11,8 @@ ghost use Rattle.onvm_board.specs.Regions.{IsRegions};
 ghost use Rattle.onvm_board.specs.Rule.{HasHistory, view_after_join, view_after, spent_view, split_view};
 
 use crate::ask::Ask;
-use crate::rule::{JoinViews, BoardRule, StepFact, SplitRole, SplitView, TellsFact};
 use crate::regions::Regions;
+use crate::rule::{BoardRule, JoinViews, SplitRole, SplitView, StepFact, TellsFact};
 use crate::spot::Spot;
 use crate::view::View;
 use atomic_table::{Seat, Table};
@@ -235,7 +235,9 @@ impl Memory {
         let _ = parcel;
         let word = self.pool_word(buf);
         let bit = self.bit(buf);
-        self.table.shared.fetch_or::<TellsFact<F>>(seat, word, 1 << bit);
+        self.table
+            .shared
+            .fetch_or::<TellsFact<F>>(seat, word, 1 << bit);
     }
 
     /// A split: word 0, and a new seat.

@@ -112,7 +112,9 @@ fn drain(board: &Board, end: End, tries: u32) -> End
     } = end;
     for _ in 0..tries {
         if let Some(parcel) = leave(board, &mut token, &mut spot, 8) {
-            if parcel.frame.number == u32::from(next) && parcel.packet.bytes() == [next, 8, 9].as_slice() {
+            if parcel.frame.number == u32::from(next)
+                && parcel.packet.bytes() == [next, 8, 9].as_slice()
+            {
                 next = next.saturating_add(1);
             }
         }

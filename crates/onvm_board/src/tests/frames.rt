@@ -115,13 +115,7 @@ pub fn enter(
 }
 
 /// A core's pop, crumb and push. False where the lane is empty, or the output ring full.
-pub fn handle(
-    board: &Board,
-    token: &mut Token,
-    lane: Spot,
-    output: Spot,
-    crumb: Crumb,
-) -> bool
+pub fn handle(board: &Board, token: &mut Token, lane: Spot, output: Spot, crumb: Crumb) -> bool
     requires head { IsHead board.now lane token.old }
     requires tail { IsTail board.now output token.old }
     requires rings { (lane.ring ≡ Lane (record { 0 = 0 }) 0) × (output.ring ≡ Output (record { 0 = 0 })) }

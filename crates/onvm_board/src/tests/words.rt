@@ -36,7 +36,10 @@ fn a_judged_look_shows_the_word_too(rt: HostRuntime) {
     };
     board.post(&mut receive, Word::Post(0), 0x1_0000_0001);
     let ask = Ask::Hold { feeder: 0, mask: 1 };
-    assert_eq!(rt; board.judge(&mut receive, Word::Post(0), frame, ask), 0x1_0000_0001);
+    assert_eq!(rt;
+        board.judge(&mut receive, Word::Post(0), frame, ask),
+        0x1_0000_0001
+    );
     let word = Word::Pool {
         port: PortId(0),
         index: 0,
