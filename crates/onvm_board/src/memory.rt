@@ -1,5 +1,6 @@
 //! The words and slots of a board, and one atomic operation on one word.
-ghost use Rattle.std.specs.Prelude.{◌≡◌, ℕ, ◌+◌, ◌*◌, ◌/◌, ◌%◌, ◌^◌, ◌==◌, ◌<◌, [], bit_and, bit_or};
+ghost use Rattle.std.specs.Prelude.{◌≡◌, ℕ, ◌+◌, ◌*◌, ◌/◌, ◌%◌, ◌^◌, ◌==◌, ◌<◌, []};
+ghost use Rattle.std.specs.Prelude.{bit_and, bit_or};
 ghost use Rattle.std.specs.Int.{bit_not, w64};
 ghost use prog.Atomic.{either};
 ghost use Rattle.atomic_table.specs.Table.{Allows as TableAllows, Joins, Splits};

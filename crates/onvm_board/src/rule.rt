@@ -3,7 +3,9 @@ ghost use Rattle.std.specs.Prelude.{ℕ};
 ghost use Rattle.onvm_core.specs.declared.layout.Layout.{Layout};
 ghost use Rattle.onvm_core.specs.declared.parcel.Parcel.{Parcel};
 ghost use Rattle.onvm_core.specs.declared.step.Act.TheVariants.{Split as SplitAct};
-ghost use Rattle.onvm_board.specs.Rule.{HasHistory, Telling, TellsNothing, first_view, view_after, split_view, view_after_join, spent_view, archived_view, same_view};
+ghost use Rattle.onvm_board.specs.Rule.{HasHistory, Telling, TellsNothing};
+ghost use Rattle.onvm_board.specs.Rule.{first_view, view_after, split_view, view_after_join, spent_view};
+ghost use Rattle.onvm_board.specs.Rule.{archived_view, same_view};
 
 use crate::view::View;
 use atomic_table::{Join, Play, Split, TableRule};
