@@ -1,6 +1,6 @@
 -- A role's two ends over a hop.
-use Rattle.std.proofs.Common.{◌≡◌, ℕ, Bool, false, List, [], ◌∷◌, ap, ◌∙◌, refl, sym, subst}
-use Rattle.std.specs.Prelude.{None, Option, if◌then◌else◌}
+use Rattle.std.proofs.Common.{◌≡◌, ℕ, Bool, false, [], ◌∷◌, ap, refl, sym, subst}
+use Rattle.std.specs.Prelude.{Option, if◌then◌else◌}
 use Rattle.onvm_base.specs.declared.ids.BufId.{BufId}
 use Rattle.onvm_base.specs.declared.ids.RingId.{RingId}
 use Rattle.onvm_base.specs.declared.outcome.Outcome.{Outcome}

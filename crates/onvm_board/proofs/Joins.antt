@@ -1,5 +1,5 @@
 -- A join keeps the rule.
-use Rattle.std.proofs.Common.{◌≡◌, ◌≢◌, ◌⊎◌, ℕ, ◌<◌, Bool, true, false, List, [], ◌∷◌, length, get_or, set, sym, refl, ap, ◌∙◌, subst, inl, inr, ⊎_elim, length-set, get_or-set_same, get_or-set_other}
+use Rattle.std.proofs.Common.{◌≡◌, ◌≢◌, ℕ, ◌<◌, Bool, true, false, List, [], ◌∷◌, length, get_or, set, sym, refl, ap, ◌∙◌, subst, inl, inr, ⊎_elim, length-set, get_or-set_same, get_or-set_other}
 use Rattle.std.specs.Prelude.{◌==◌, ◌||◌, if◌then◌else◌}
 use Rattle.std.proofs.lemmas.Bool.{cases_Bool, ne_eqb, eqb-true, eqb-false}
 use mathlib.Core.Option.{some}
@@ -13,7 +13,6 @@ use Rattle.onvm_core.specs.History.{History, is_live, is_split}
 use Rattle.onvm_core.specs.Lawful.{AllowsAct, IsLawful}
 use Rattle.onvm_core.specs.Logs.{Log, log_of}
 use Rattle.onvm_board.specs.declared.view.View.{View}
-use Rattle.onvm_board.specs.Addresses.{word_count, slot_count}
 use Rattle.onvm_board.specs.Known.{held_buffers_in}
 use Rattle.onvm_board.specs.Rule.{step_of, HasHistory, IsSeatOf, KeepsLogs, spent_view, view_after_join}
 use Rattle.onvm_board.proofs.Hands.{holds_none}

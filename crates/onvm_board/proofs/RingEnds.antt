@@ -1,11 +1,9 @@
 -- A ring's end after its push or pop.
-use Rattle.std.proofs.Common.{◌≡◌, ℕ, ◌+◌, ◌%◌, Bool, List, [], ◌∷◌, ◌++◌, length, sym, ap, ◌∙◌, subst, arith, length-append, mod-lt}
+use Rattle.std.proofs.Common.{◌≡◌, ℕ, ◌+◌, ◌%◌, Bool, [], ◌∷◌, length, sym, ap, ◌∙◌, subst, arith, length-append, mod-lt}
 use Rattle.std.specs.Prelude.{min, if◌then◌else◌}
-use Rattle.std.proofs.lemmas.List.{append-nil}
 use Rattle.std.proofs.Math.Nat.{mod-add-mod}
 use Rattle.onvm_base.specs.declared.ids.RingId.{RingId}
 use Rattle.onvm_core.specs.declared.step.Item.{Item}
-use Rattle.onvm_core.specs.declared.step.Act.{Act}
 use Rattle.onvm_core.specs.declared.step.Act.TheVariants.{Push, Pop}
 use Rattle.onvm_core.specs.Layouts.{ring_size}
 use Rattle.onvm_core.specs.History.{pushes, pops}

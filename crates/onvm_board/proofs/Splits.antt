@@ -1,5 +1,5 @@
 -- A split keeps the rule.
-use Rattle.std.proofs.Common.{◌≡◌, ◌≢◌, ◌⊎◌, ℕ, ◌<◌, Bool, true, false, List, ◌∷◌, length, set, sym, refl, ap, ◌∙◌, subst, inl, inr, ⊎_elim}
+use Rattle.std.proofs.Common.{◌≡◌, ◌≢◌, ℕ, ◌<◌, Bool, true, false, List, ◌∷◌, length, set, sym, refl, ap, ◌∙◌, subst, inl, inr, ⊎_elim}
 use Rattle.std.specs.Prelude.{◌==◌, ◌||◌, if◌then◌else◌}
 use Rattle.std.proofs.lemmas.Bool.{cases_Bool, eq-eqb, ne_eqb}
 use mathlib.Core.Option.{some}
@@ -13,7 +13,6 @@ use Rattle.onvm_core.specs.History.{History, is_live, is_split}
 use Rattle.onvm_core.specs.Lawful.{AllowsAct, IsLawful}
 use Rattle.onvm_core.specs.Logs.{Log, log_of}
 use Rattle.onvm_board.specs.declared.view.View.{View}
-use Rattle.onvm_board.specs.Addresses.{word_count, slot_count}
 use Rattle.onvm_board.specs.Known.{is_split_in}
 use Rattle.onvm_board.specs.Rule.{step_of, HasHistory, IsSeatOf, KeepsLogs, view_after, split_view}
 use Rattle.onvm_board.proofs.Logs.{log_same, log_else, split_is, live_below}

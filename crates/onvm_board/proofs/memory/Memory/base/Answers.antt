@@ -1,4 +1,4 @@
-use Rattle.std.proofs.Common.{rules, ℕ, ◌<◌, sym, subst, arith}
+use Rattle.std.proofs.Common.{rules, ◌<◌, sym, subst, arith}
 use Rattle.onvm_core.specs.Layouts.{IsWord}
 use Rattle.onvm_core.specs.declared.layout.Word.TheVariants.{Cell}
 use Rattle.onvm_board.proofs.Bounds.{word_small}
