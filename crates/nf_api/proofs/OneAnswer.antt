@@ -11,9 +11,9 @@ use Rattle.onvm_base.specs.declared.outcome.Verdict.{Verdict}
 use Rattle.onvm_packet.specs.Heads.{net_of}
 use Rattle.onvm_packet.specs.declared.heads.Net.{Net}
 use Rattle.onvm_packet.specs.declared.heads.Net.TheVariants as net
-use Rattle.nf_api.specs.Answers.{Answer, Is, IsAnswer}
+use Rattle.nf_api.specs.Answers.{Answer, GivesAndLeaves, IsAnswer}
 use Rattle.nf_api.proofs.Matching.{none_matches}
-use Rattle.nf_api.specs.Routing.{IsFound, IsRouted, Wins, NoneMatches, length_of, towards}
+use Rattle.nf_api.specs.Routing.{IsFound, IsRouted, Wins, NoneMatches, length_of, verdict_towards}
 
 module _ (table : List RouteEntry) (target : ℕ) where
   -- two entries that win stand at one place
@@ -37,7 +37,7 @@ module _ (table : List RouteEntry) (target : ℕ) where
 
   one_found : (v w : Verdict) → IsFound table target v → IsFound table target w → v ≡ w
   one_found v w (inl a) (inl b) =
-      a.2 ∙ ap (λ (e : RouteEntry). towards e.target) (one_wins a.0 b.0 a.1 b.1) ∙ sym b.2
+      a.2 ∙ ap (λ (e : RouteEntry). verdict_towards e.target) (one_wins a.0 b.0 a.1 b.1) ∙ sym b.2
   one_found v w (inl a) (inr b) = absurd (none_wins a.0 a.1 b.0)
   one_found v w (inr a) (inl b) = absurd (none_wins b.0 b.1 a.0)
   one_found v w (inr a) (inr b) = a.1 ∙ sym b.1
@@ -47,7 +47,7 @@ one_routed table (net.V4 at source target protocol ttl) v w a b = one_found tabl
 one_routed table net.None v w a b = a ∙ sym b
 one_routed table (net.V6 at source target next hops) v w a b = a ∙ sym b
 
-one : (answer : Answer) (v w : Verdict) (x y : List ℕ) → Is answer v x → Is answer w y → (v ≡ w) × (x ≡ y)
+one : (answer : Answer) (v w : Verdict) (x y : List ℕ) → GivesAndLeaves answer v x → GivesAndLeaves answer w y → (v ≡ w) × (x ≡ y)
 one answer v w x y a b = (a.0 ∙ sym b.0, a.1 ∙ sym b.1)
 
 pub one_answer : (kind : Kind) (port : PortId) (bytes : List ℕ) (v w : Verdict) (x y : List ℕ)

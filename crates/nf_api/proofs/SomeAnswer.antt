@@ -12,11 +12,11 @@ use Rattle.onvm_packet.specs.declared.heads.Net.{Net}
 use Rattle.onvm_packet.specs.declared.heads.Net.TheVariants as net
 use Rattle.nf_api.proofs.Matching.{some_wins_or_none}
 use Rattle.nf_api.specs.Answers.{IsAnswer, is_steady, is_routing}
-use Rattle.nf_api.specs.Routing.{IsFound, IsRouted, towards}
+use Rattle.nf_api.specs.Routing.{IsFound, IsRouted, verdict_towards}
 
 some_found : (table : List RouteEntry) (target : ℕ) → (v : Verdict) × IsFound table target v
 some_found table target = elim (some_wins_or_none table target) [
-  | inl won ↦ (towards won.0.target, inl (won.0, won.1, refl))
+  | inl won ↦ (verdict_towards won.0.target, inl (won.0, won.1, refl))
   | inr none ↦ (Drop, inr (none, refl))
 ]
 

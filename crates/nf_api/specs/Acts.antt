@@ -14,3 +14,7 @@ Narrows acts wider =
     (before : Tree) (bytes : List ℕ) (meta : Meta) (verdict : Verdict) (left : List ℕ) (after : Tree)
     → acts before bytes meta verdict left after
     → wider before bytes meta verdict left after
+
+-- whoever wants memory for a packet by the first wanted it by the second
+abbrev pub WantsNoMore : (wants wider : List ℕ → Type 0) → Type 0
+WantsNoMore wants wider = (bytes : List ℕ) → wants bytes → wider bytes

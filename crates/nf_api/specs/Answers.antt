@@ -24,13 +24,13 @@ abbrev pub does_match : List Tests → PortId → Heads → Bool
 does_match [] port heads = false
 does_match (tests ∷ rest) port heads = if do_hold tests port heads then true else does_match rest port heads
 
-abbrev pub filtered : List Tests → PortId → List ℕ → Answer
-filtered tests port bytes = (if does_match tests port (heads_of bytes) then Drop else Next, bytes)
+abbrev pub filter_answer : List Tests → PortId → List ℕ → Answer
+filter_answer tests port bytes = (if does_match tests port (heads_of bytes) then Drop else Next, bytes)
 
 -- RFC 1812, 5.3.1, and RFC 8200, 3: a forwarded frame has one less, and none is forwarded with 0
-abbrev pub decremented : Option ℕ → List ℕ → Answer
-decremented None bytes = (Next, bytes)
-decremented (Some ttl) bytes = if nat_le ttl 1 then (Drop, bytes) else (Next, with_ttl (ttl - 1) bytes)
+abbrev pub ttl_answer : Option ℕ → List ℕ → Answer
+ttl_answer None bytes = (Next, bytes)
+ttl_answer (Some ttl) bytes = if nat_le ttl 1 then (Drop, bytes) else (Next, with_ttl (ttl - 1) bytes)
 
 -- IEEE 802.1Q: in the tag control information the priority is the high three bits, the VLAN the low twelve
 abbrev pub tci_of : ℕ → ℕ → ℕ
@@ -44,38 +44,38 @@ has_type bytes = nat_le ETHERNET_LEN (length bytes)
 abbrev pub has_room : List ℕ → Bool
 has_room bytes = nat_le (length bytes + TAG_LEN) MAX_FRAME_BYTES
 
-abbrev pub tagged : ℕ → List ℕ → Answer
-tagged tci bytes =
+abbrev pub tag_answer : ℕ → List ℕ → Answer
+tag_answer tci bytes =
     if has_type bytes then (if has_room bytes then (Next, with_tag tci bytes) else (Drop, bytes)) else (Next, bytes)
 
-abbrev pub untagged : List ℕ → List ℕ
-untagged bytes = if is_tagged bytes then without_tag bytes else bytes
+abbrev pub without_tag_if_any : List ℕ → List ℕ
+without_tag_if_any bytes = if is_tagged bytes then without_tag bytes else bytes
 
-abbrev pub addressed : List ℕ → List ℕ → List ℕ → List ℕ
-addressed target source bytes = if has_type bytes then with_macs target source bytes else bytes
+abbrev pub with_macs_if_typed : List ℕ → List ℕ → List ℕ → List ℕ
+with_macs_if_typed target source bytes = if has_type bytes then with_macs target source bytes else bytes
 
 -- the frames of a flow go to one service. A list of services is never empty (`IsKind`)
-abbrev pub balanced : List ℕ → Heads → Verdict
-balanced services heads = ToService (slice_index services (flow_hash_of heads % length services))
+abbrev pub balance_verdict : List ℕ → Heads → Verdict
+balance_verdict services heads = ToService (slice_index services (flow_hash_of heads % length services))
 
-abbrev pub Is : Answer → Verdict → List ℕ → Type 0
-Is answer verdict left = (verdict ≡ answer.0) × (left ≡ answer.1)
+abbrev pub GivesAndLeaves : Answer → Verdict → List ℕ → Type 0
+GivesAndLeaves answer verdict left = (verdict ≡ answer.0) × (left ≡ answer.1)
 
 -- a function of this kind answers so for the bytes of a frame that this port received, and leaves these bytes.
 -- Kinds that keep something have no answer by the frame alone
 abbrev pub IsAnswer : Kind → PortId → List ℕ → Verdict → List ℕ → Type 0
-IsAnswer kind.Forward port bytes = Is (Next, bytes)
-IsAnswer kind.Drop port bytes = Is (Drop, bytes)
-IsAnswer (kind.Out to) port bytes = Is (Out to, bytes)
-IsAnswer (kind.To service) port bytes = Is (ToService service, bytes)
-IsAnswer (kind.Filter tests) port bytes = Is (filtered tests port bytes)
-IsAnswer kind.Ttl port bytes = Is (decremented (ttl_of (net_of bytes)) bytes)
-IsAnswer (kind.Tag vlan priority) port bytes = Is (tagged (tci_of vlan priority) bytes)
-IsAnswer kind.Untag port bytes = Is (Next, untagged bytes)
-IsAnswer (kind.Macs target source) port bytes = Is (Next, addressed target source bytes)
+IsAnswer kind.Forward port bytes = GivesAndLeaves (Next, bytes)
+IsAnswer kind.Drop port bytes = GivesAndLeaves (Drop, bytes)
+IsAnswer (kind.Out to) port bytes = GivesAndLeaves (Out to, bytes)
+IsAnswer (kind.To service) port bytes = GivesAndLeaves (ToService service, bytes)
+IsAnswer (kind.Filter tests) port bytes = GivesAndLeaves (filter_answer tests port bytes)
+IsAnswer kind.Ttl port bytes = GivesAndLeaves (ttl_answer (ttl_of (net_of bytes)) bytes)
+IsAnswer (kind.Tag vlan priority) port bytes = GivesAndLeaves (tag_answer (tci_of vlan priority) bytes)
+IsAnswer kind.Untag port bytes = GivesAndLeaves (Next, without_tag_if_any bytes)
+IsAnswer (kind.Macs target source) port bytes = GivesAndLeaves (Next, with_macs_if_typed target source bytes)
 IsAnswer (kind.Route table) port bytes =
     λ verdict left. IsRouted table (net_of bytes) verdict × (left ≡ bytes)
-IsAnswer (kind.Balance services) port bytes = Is (balanced services (heads_of bytes), bytes)
+IsAnswer (kind.Balance services) port bytes = GivesAndLeaves (balance_verdict services (heads_of bytes), bytes)
 IsAnswer _ port bytes = λ verdict left. ⊥
 
 -- what a function of a kind that keeps nothing does: it answers by the frame alone, and its state stays as it is

@@ -5,6 +5,7 @@ use Rattle.onvm_base.specs.declared.rules.Prefix.TheVariants as prefix
 use Rattle.onvm_base.specs.declared.chain.ChainStep.{ChainStep}
 use Rattle.onvm_base.specs.declared.chain.ChainStep.TheVariants as step
 use Rattle.onvm_base.specs.declared.function.RouteEntry.{RouteEntry}
+use Rattle.onvm_base.specs.declared.limits.TheConstants.{IPV4_BITS, IPV6_BITS}
 use Rattle.onvm_base.specs.declared.outcome.Verdict.{Verdict}
 use Rattle.onvm_base.specs.declared.outcome.Verdict.TheVariants.{Drop, ToService, Out}
 use Rattle.onvm_packet.specs.Holding.{covers_ipv4}
@@ -13,13 +14,13 @@ use Rattle.onvm_packet.specs.declared.heads.Net.TheVariants as net
 
 -- how many first bits of an address a prefix fixes: at most all of them
 abbrev pub length_of : Prefix → ℕ
-length_of (prefix.V4 address length) = min length 32
-length_of (prefix.V6 address length) = min length 128
+length_of (prefix.V4 address length) = min length IPV4_BITS
+length_of (prefix.V6 address length) = min length IPV6_BITS
 
 -- the verdict that sends a frame to a target
-abbrev pub towards : ChainStep → Verdict
-towards (step.To service) = ToService service
-towards (step.Out port) = Out port
+abbrev pub verdict_towards : ChainStep → Verdict
+verdict_towards (step.To service) = ToService service
+verdict_towards (step.Out port) = Out port
 
 -- this entry stands there in the table, and the address is in its prefix
 abbrev pub Matches : List RouteEntry → ℕ → ℕ → RouteEntry → Type 0
@@ -40,7 +41,7 @@ NoneMatches table target = All (λ entry. covers_ipv4 entry.prefix target ≡ fa
 -- the verdict for an address: towards the target of the entry that wins, or Drop where no entry's prefix has it
 abbrev pub IsFound : List RouteEntry → ℕ → Verdict → Type 0
 IsFound table target verdict =
-    ((entry : RouteEntry) × Wins table target entry × (verdict ≡ towards entry.target))
+    ((entry : RouteEntry) × Wins table target entry × (verdict ≡ verdict_towards entry.target))
     ⊎ (NoneMatches table target × (verdict ≡ Drop))
 
 -- the verdict for a network head: that for its target, or Drop without an IPv4 head

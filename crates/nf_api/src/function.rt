@@ -11,7 +11,7 @@ use onvm_base::{NoMemory, Packet, Verdict};
 pub trait NetFunction: Drop {
     ghost use Rattle.std.specs.Prelude.{◌≡◌, ◌≤◌, ℕ, List, length, IfOk, OnErr, ⊤};
     ghost use Rattle.onvm_base.specs.declared.limits.TheConstants.{MAX_FRAME_BYTES};
-    ghost use Rattle.nf_api.specs.Acts.{Acts, Narrows};
+    ghost use Rattle.nf_api.specs.Acts.{Acts, Narrows, WantsNoMore};
     ghost use Rattle.nf_api.specs.Tree.{Tree};
 
     /// What it keeps between packets.
@@ -31,6 +31,9 @@ pub trait NetFunction: Drop {
 
         // What it may do later, it might have done before.
         ensures kept { Narrows (acts self.new) (acts self.old) }
+
+        // What it may want memory for later, it might have wanted it for before.
+        ensures no_more { WantsNoMore (wants self.new) (wants self.old) }
         ensures unchanged { OnErr result ((state self.new ≡ state self.old) × (packet.new ≡ packet.old)) }
 
         // What it might have done before a want of memory, it may do afterwards.

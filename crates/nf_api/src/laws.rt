@@ -3,7 +3,7 @@ ghost use Rattle.std.specs.Prelude.{◌≡◌, ◌⊎◌, ◌||◌, ℕ, List, I
 ghost use Rattle.onvm_base.specs.declared.function.Kind.{Kind};
 ghost use Rattle.onvm_base.specs.declared.ids.PortId.{PortId};
 ghost use Rattle.onvm_base.specs.declared.outcome.Verdict.{Verdict};
-ghost use Rattle.nf_api.specs.Acts.{Narrows};
+ghost use Rattle.nf_api.specs.Acts.{Narrows, WantsNoMore};
 ghost use Rattle.nf_api.specs.Answers.{IsAnswer, is_routing, is_steady};
 ghost use Rattle.nf_api.specs.Tree.{Tree};
 
@@ -33,18 +33,21 @@ pub fn two_packets_are_a_journal<N: NetFunction>(
     meta: &Meta,
 ) -> Result<(Verdict, Verdict), NoMemory>
     ensures journal { IfOk result (λ verdicts. (between : Tree)
-        × ⟦<N as NetFunction>⟧.acts function.old (⟦<N as NetFunction>⟧.state function.old)
+        × N.acts function.old (N.state function.old)
         first.old meta.now verdicts.0 first.new between
-        × ⟦<N as NetFunction>⟧.acts function.old between
-        second.old meta.now verdicts.1 second.new (⟦<N as NetFunction>⟧.state function.new)) }
-    ensures kept { Narrows (⟦<N as NetFunction>⟧.acts function.new) (⟦<N as NetFunction>⟧.acts function.old) }
+        × N.acts function.old between
+        second.old meta.now verdicts.1 second.new (N.state function.new)) }
+    ensures kept { Narrows (N.acts function.new) (N.acts function.old) }
+    ensures no_more { WantsNoMore (N.wants function.new) (N.wants function.old) }
+    ensures wanting { OnErr result (N.wants function.old first.old
+        ⊎ N.wants function.old second.old) }
     ensures second { OnErr result (second.new ≡ second.old) }
     ensures first { OnErr result (
         ((first.new ≡ first.old)
-        × (⟦<N as NetFunction>⟧.state function.new ≡ ⟦<N as NetFunction>⟧.state function.old))
+        × (N.state function.new ≡ N.state function.old))
         ⊎ ((verdict : Verdict)
-        × ⟦<N as NetFunction>⟧.acts function.old (⟦<N as NetFunction>⟧.state function.old)
-        first.old meta.now verdict first.new (⟦<N as NetFunction>⟧.state function.new))) }
+        × N.acts function.old (N.state function.old)
+        first.old meta.now verdict first.new (N.state function.new))) }
 {
     let verdict = function.handle(first, meta)?;
     Ok((verdict, function.handle(second, meta)?))

@@ -1,18 +1,18 @@
 //! The entry that wins, by a look at each.
 ghost use Rattle.std.specs.Prelude.{◌≡◌, ◌<◌, ◌↔◌, true, Some, IsTrue, MatchOption};
 ghost use Rattle.onvm_base.specs.declared.function.RouteEntry.{RouteEntry};
-ghost use Rattle.nf_api.specs.Routing.{IsFound, NoneMatches, Wins, length_of, towards};
+ghost use Rattle.nf_api.specs.Routing.{IsFound, NoneMatches, Wins, length_of, verdict_towards};
 ghost use Rattle.onvm_packet.specs.Holding.{covers_ipv4};
 
 use crate::span::Span;
-use onvm_base::{ChainStep, Prefix, RouteEntry, Verdict};
+use onvm_base::{ChainStep, IPV4_BITS, IPV6_BITS, Prefix, RouteEntry, Verdict};
 
 /// The verdict for an address (RFC 1812, 5.2.4.3).
 pub fn find(entries: &[RouteEntry], target: u32) -> Verdict
     ensures { IsFound entries.now target result }
 {
     match winner(entries, target) {
-        Some(entry) => towards(entry.target),
+        Some(entry) => verdict_towards(entry.target),
         None => Verdict::Drop,
     }
 }
@@ -55,14 +55,14 @@ fn length_of(prefix: Prefix) -> u8
     ensures { result ≡ length_of prefix }
 {
     match prefix {
-        Prefix::V4 { length, .. } => length.min(32),
-        Prefix::V6 { length, .. } => length.min(128),
+        Prefix::V4 { length, .. } => length.min(IPV4_BITS),
+        Prefix::V6 { length, .. } => length.min(IPV6_BITS),
     }
 }
 
 // The verdict that sends a frame to a target.
-fn towards(target: ChainStep) -> Verdict
-    ensures { result ≡ towards target }
+fn verdict_towards(target: ChainStep) -> Verdict
+    ensures { result ≡ verdict_towards target }
 {
     match target {
         ChainStep::To(service) => Verdict::ToService(service),

@@ -2,7 +2,7 @@
 ghost use Rattle.std.specs.Prelude.{◌≡◌, ℕ, ◌≤◌, ◌<◌, ◌^◌, ◌↔◌, true, IsTrue};
 ghost use Rattle.onvm_packet.specs.Holding.{covers_ipv4};
 
-use onvm_base::Prefix;
+use onvm_base::{IPV4_BITS, Prefix};
 
 /// IPv4 addresses in a row.
 #[derive(Clone, Copy)]
@@ -20,7 +20,7 @@ impl Span {
     {
         match prefix {
             Prefix::V4 { address, length } => {
-                let free = 32u8.saturating_sub(length);
+                let free = IPV4_BITS.saturating_sub(length);
                 let first = u64::from(address) >> free << free;
                 Span {
                     first,

@@ -1,6 +1,6 @@
 //! Objects of tests, any of which drops a frame.
 ghost use Rattle.std.specs.Prelude.{◌≡◌};
-ghost use Rattle.nf_api.specs.Answers.{does_match, filtered};
+ghost use Rattle.nf_api.specs.Answers.{does_match, filter_answer};
 ghost use Rattle.onvm_packet.specs.Heads.{heads_of};
 
 use onvm_base::{PortId, TestsList, Verdict};
@@ -8,7 +8,7 @@ use onvm_packet::{Heads, holds, parse};
 
 /// Drops a frame for which all tests of one object hold.
 pub fn filter(objects: &TestsList, bytes: &[u8], port: PortId) -> Verdict
-    ensures { result ≡ (filtered objects.now port bytes.now).0 }
+    ensures { result ≡ (filter_answer objects.now port bytes.now).0 }
 {
     if matches_one(objects, port, &parse(bytes)) {
         Verdict::Drop

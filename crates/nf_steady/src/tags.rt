@@ -1,6 +1,6 @@
 //! Tags of IEEE 802.1Q.
 ghost use Rattle.std.specs.Prelude.{◌≡◌, ◌%◌, ◌&&◌, ◌^◌, IfOk, IsTrue, OnErr};
-ghost use Rattle.nf_api.specs.Answers.{Is, has_room, has_type, tagged, tci_of, untagged};
+ghost use Rattle.nf_api.specs.Answers.{GivesAndLeaves, has_room, has_type, tag_answer, tci_of, without_tag_if_any};
 
 use onvm_base::{MAX_FRAME_BYTES, NoMemory, Packet, Verdict};
 use onvm_packet::{ETHERNET_LEN, TAG_LEN, is_tagged, pop_tag, push_tag};
@@ -8,7 +8,8 @@ use onvm_packet::{ETHERNET_LEN, TAG_LEN, is_tagged, pop_tag, push_tag};
 /// Puts a tag before the type. A frame without a type goes on as it is, and one that would be
 /// too long is dropped.
 pub fn tag(packet: &mut Packet, vlan: u16, priority: u8) -> Result<Verdict, NoMemory>
-    ensures answer { IfOk result (λ verdict. Is (tagged (tci_of vlan priority) packet.old) verdict packet.new) }
+    ensures answer { IfOk result (λ verdict.
+        GivesAndLeaves (tag_answer (tci_of vlan priority) packet.old) verdict packet.new) }
     ensures unchanged { OnErr result (packet.new ≡ packet.old) }
     ensures grows { OnErr result (IsTrue (has_type packet.old && has_room packet.old)) }
 {
@@ -33,7 +34,7 @@ fn tci_of(vlan: u16, priority: u8) -> u16
 
 /// Takes the outer tag out, if there is one.
 pub fn untag(packet: &mut Packet)
-    ensures { packet.new ≡ untagged packet.old }
+    ensures { packet.new ≡ without_tag_if_any packet.old }
 {
     if is_tagged(packet.bytes()) {
         pop_tag(packet);

@@ -3,7 +3,7 @@ use Rattle.std.proofs.Common.{◌≡◌, ◌∙◌, sym, ap, ℕ, zero, suc, ◌
 use Rattle.std.proofs.lemmas.List.{get_or_append_left, get_or-append_right, get_or-take, get_or-drop, length-append, length-drop, length-take-le, take-take, drop-take, drop-drop, drop-append-le}
 use Rattle.byteorder.specs.Endian.{big_from}
 use Rattle.onvm_packet.specs.Bytes.{byte, number}
-use Rattle.onvm_packet.specs.Edits.{written}
+use Rattle.onvm_packet.specs.Edits.{with_bytes_at}
 
 -- a list that has been gone past in part
 pub take-past : (front back : List ℕ) (n m : ℕ) → n ≡ length front + m → take n (front ++ back) ≡ front ++ take m back
@@ -24,25 +24,25 @@ module _ (at : ℕ) (over bytes : List ℕ) (fits : at + length over ≤ length 
   front-length : length (take at bytes) ≡ at
   front-length = length-take-le at bytes (omega arith)
 
-  pub length-written : length (written at over bytes) ≡ length bytes
-  length-written =
+  pub length-with_bytes_at : length (with_bytes_at at over bytes) ≡ length bytes
+  length-with_bytes_at =
       let back : length (drop (at + length over) bytes) ≡ length bytes - (at + length over) = length-drop (at + length over) bytes in
       length-append (take at bytes) (over ++ drop (at + length over) bytes)
       ∙ omega (arith, front-length, length-append over (drop (at + length over) bytes), back)
 
-  pub byte-before : (k : ℕ) → k < at → byte k (written at over bytes) ≡ byte k bytes
+  pub byte-before : (k : ℕ) → k < at → byte k (with_bytes_at at over bytes) ≡ byte k bytes
   byte-before k before =
       get_or_append_left (take at bytes) (over ++ drop (at + length over) bytes) 0 k (omega (arith, front-length))
       ∙ get_or-take at bytes k 0 before
 
-  pub byte-over : (k : ℕ) → k < length over → byte (at + k) (written at over bytes) ≡ byte k over
+  pub byte-over : (k : ℕ) → k < length over → byte (at + k) (with_bytes_at at over bytes) ≡ byte k over
   byte-over k inside =
       let place : at + k - at ≡ k = omega arith in
       get_or-append_right (take at bytes) (over ++ drop (at + length over) bytes) at (at + k) 0 front-length (omega arith)
       ∙ ap (λ (n : ℕ). get_or (over ++ drop (at + length over) bytes) n 0) place
       ∙ get_or_append_left over (drop (at + length over) bytes) 0 k inside
 
-  pub byte-behind : (k : ℕ) → at + length over ≤ k → byte k (written at over bytes) ≡ byte k bytes
+  pub byte-behind : (k : ℕ) → at + length over ≤ k → byte k (with_bytes_at at over bytes) ≡ byte k bytes
   byte-behind k behind =
       let place : at + length over + (k - at - length over) ≡ k = omega arith in
       get_or-append_right (take at bytes) (over ++ drop (at + length over) bytes) at k 0 front-length (omega arith)
@@ -50,17 +50,17 @@ module _ (at : ℕ) (over bytes : List ℕ) (fits : at + length over ≤ length 
       ∙ get_or-drop (at + length over) bytes (k - at - length over) 0
       ∙ ap (λ (n : ℕ). get_or bytes n 0) place
 
-  pub number-before : (count k : ℕ) → k + count ≤ at → number count k (written at over bytes) ≡ number count k bytes
+  pub number-before : (count k : ℕ) → k + count ≤ at → number count k (with_bytes_at at over bytes) ≡ number count k bytes
   number-before count k before =
-      big_from-same count 0 _ _ (λ i l. get_or-drop k (written at over bytes) i 0 ∙ byte-before (k + i) (omega arith) ∙ sym (get_or-drop k bytes i 0))
+      big_from-same count 0 _ _ (λ i l. get_or-drop k (with_bytes_at at over bytes) i 0 ∙ byte-before (k + i) (omega arith) ∙ sym (get_or-drop k bytes i 0))
 
-  pub number-behind : (count k : ℕ) → at + length over ≤ k → number count k (written at over bytes) ≡ number count k bytes
+  pub number-behind : (count k : ℕ) → at + length over ≤ k → number count k (with_bytes_at at over bytes) ≡ number count k bytes
   number-behind count k behind =
-      big_from-same count 0 _ _ (λ i l. get_or-drop k (written at over bytes) i 0 ∙ byte-behind (k + i) (omega arith) ∙ sym (get_or-drop k bytes i 0))
+      big_from-same count 0 _ _ (λ i l. get_or-drop k (with_bytes_at at over bytes) i 0 ∙ byte-behind (k + i) (omega arith) ∙ sym (get_or-drop k bytes i 0))
 
   -- the first bytes, with what is written over among them
-  pub take-written : (n : ℕ) → at + length over ≤ n → take n (written at over bytes) ≡ written at over (take n bytes)
-  take-written n behind =
+  pub take-with_bytes_at : (n : ℕ) → at + length over ≤ n → take n (with_bytes_at at over bytes) ≡ with_bytes_at at over (take n bytes)
+  take-with_bytes_at n behind =
       let m : ℕ = n - (at + length over) in
       let split : at + length over + m ≡ n = omega arith in
       let rest : drop (at + length over) (take n bytes) ≡ take m (drop (at + length over) bytes) =
@@ -71,9 +71,9 @@ module _ (at : ℕ) (over bytes : List ℕ) (fits : at + length over ≤ length 
       ∙ ap (λ (t : List ℕ). t ++ (over ++ drop (at + length over) (take n bytes))) (sym (take-take at n bytes (omega arith)))
 
 -- the bytes from an offset on
-pub drop-written : (from at : ℕ) (over bytes : List ℕ) → from + at + length over ≤ length bytes
-    → drop from (written (from + at) over bytes) ≡ written at over (drop from bytes)
-drop-written from at over bytes fits =
+pub drop-with_bytes_at : (from at : ℕ) (over bytes : List ℕ) → from + at + length over ≤ length bytes
+    → drop from (with_bytes_at (from + at) over bytes) ≡ with_bytes_at at over (drop from bytes)
+drop-with_bytes_at from at over bytes fits =
     let back : List ℕ = over ++ drop (from + at + length over) bytes in
     let size : length (take (from + at) bytes) ≡ from + at = length-take-le (from + at) bytes (omega arith) in
     let behind : drop (from + at + length over) bytes ≡ drop (at + length over) (drop from bytes) =

@@ -2,8 +2,10 @@ pub mod Hashing
 pub mod Header
 pub mod HeadsKept
 pub mod Kept
+pub mod Keys
 pub mod Macs
 pub mod Ones
+pub mod SameKeys
 pub mod Tags
 pub mod TtlChecksum
 pub mod TtlHeads

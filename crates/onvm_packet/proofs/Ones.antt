@@ -1,6 +1,6 @@
 -- Sums in one's complement are sums modulo 65535, where only the empty sum is 0.
 use Rattle.std.proofs.Common.{◌≡◌, ◌∙◌, sym, ap, ℕ, zero, suc, ◌+◌, ◌-◌, ◌%◌, ◌<◌, List, [], ◌∷◌, arith, refl}
-use Rattle.onvm_packet.specs.Checksum.{AreWords, ones_plus, ones_sum, swapped}
+use Rattle.onvm_packet.specs.Checksum.{AreWords, ones_plus, ones_sum, updated_checksum}
 
 -- what is left of a sum once its carries came in at the low end
 abbrev pub folded : ℕ → ℕ
@@ -49,9 +49,9 @@ pub made_up : (n rest sum old new : ℕ) → n + (sum + old) ≡ 131070 + new �
 made_up zero rest sum old new e fs fo multiple = omega arith
 made_up (suc n) rest sum old new e fs fo multiple = omega arith
 
-pub swapped-folded : (sum old new : ℕ) → sum < 65536 → old < 65536 → new < 65536
-    → swapped sum old new ≡ 65535 - folded (new + (65535 - sum + (65535 - old)))
-swapped-folded sum old new fs fo fn =
+pub updated_checksum-folded : (sum old new : ℕ) → sum < 65536 → old < 65536 → new < 65536
+    → updated_checksum sum old new ≡ 65535 - folded (new + (65535 - sum + (65535 - old)))
+updated_checksum-folded sum old new fs fo fn =
     let a : ℕ = 65535 - sum in
     let b : ℕ = 65535 - old in
     let first : ones_plus a b ≡ folded (a + b) =
@@ -60,33 +60,33 @@ swapped-folded sum old new fs fo fn =
     plus_comm (ones_plus a b) new ∙ ap (ones_plus new) first ∙ plus-folded new (a + b) fn in
     ap (λ (n : ℕ). 65535 - n) second
 
-pub swapped-keeps : (rest sum old new : ℕ) → sum < 65536 → old < 65536 → new < 65536 → (rest + (old + sum)) % 65535 ≡ 0
-    → (rest + (new + swapped sum old new)) % 65535 ≡ 0
-swapped-keeps rest sum old new fs fo fn multiple =
-    ap (λ (n : ℕ). (rest + (new + n)) % 65535) (swapped-folded sum old new fs fo fn)
+pub updated_checksum-keeps : (rest sum old new : ℕ) → sum < 65536 → old < 65536 → new < 65536 → (rest + (old + sum)) % 65535 ≡ 0
+    → (rest + (new + updated_checksum sum old new)) % 65535 ≡ 0
+updated_checksum-keeps rest sum old new fs fo fn multiple =
+    ap (λ (n : ℕ). (rest + (new + n)) % 65535) (updated_checksum-folded sum old new fs fo fn)
     ∙ made_up (new + (65535 - sum + (65535 - old))) rest sum old new (omega arith) fs fo multiple
 
-pub swapped-fits : (sum old new : ℕ) → swapped sum old new < 65536
-swapped-fits sum old new = omega arith
+pub updated_checksum-fits : (sum old new : ℕ) → updated_checksum sum old new < 65536
+updated_checksum-fits sum old new = omega arith
 
 -- only nothing folds to nothing
 pub above-folded : (n : ℕ) → 0 < folded n → 0 < n
 above-folded zero above = absurd (omega arith)
 above-folded (suc n) above = omega arith
 
-pub swapped-right : (others : List ℕ) (sum old new : ℕ) → AreWords (sum ∷ old ∷ others) → new < 65536
-    → ones_sum (sum ∷ old ∷ others) ≡ 65535 → 0 < ones_sum (swapped sum old new ∷ new ∷ others)
-    → ones_sum (swapped sum old new ∷ new ∷ others) ≡ 65535
-swapped-right others sum old new fit fn right above =
-    let made : ℕ = swapped sum old new in
+pub updated_checksum-right : (others : List ℕ) (sum old new : ℕ) → AreWords (sum ∷ old ∷ others) → new < 65536
+    → ones_sum (sum ∷ old ∷ others) ≡ 65535 → 0 < ones_sum (updated_checksum sum old new ∷ new ∷ others)
+    → ones_sum (updated_checksum sum old new ∷ new ∷ others) ≡ 65535
+updated_checksum-right others sum old new fit fn right above =
+    let made : ℕ = updated_checksum sum old new in
     let rest : ℕ = total others in
     let fold : ones_sum (made ∷ new ∷ others) ≡ folded (made + (new + rest)) =
-    ones_sum-folded (made ∷ new ∷ others) (swapped-fits sum old new, (fn, fit.1.1)) in
+    ones_sum-folded (made ∷ new ∷ others) (updated_checksum-fits sum old new, (fn, fit.1.1)) in
     let ones = all_ones (sum + (old + rest)) (sym (ones_sum-folded (sum ∷ old ∷ others) fit) ∙ right) in
     let before : rest + (old + sum) ≡ sum + (old + rest) = omega arith in
     let after : made + (new + rest) ≡ rest + (new + made) = omega arith in
     let kept : (rest + (new + made)) % 65535 ≡ 0 =
-    swapped-keeps rest sum old new fit.0 fit.1.0 fn (ap (λ (n : ℕ). n % 65535) before ∙ ones.1) in
+    updated_checksum-keeps rest sum old new fit.0 fit.1.0 fn (ap (λ (n : ℕ). n % 65535) before ∙ ones.1) in
     fold
     ∙ folded-multiple (made + (new + rest)) (above-folded (made + (new + rest)) (omega (arith, fold, above)))
     (ap (λ (n : ℕ). n % 65535) after ∙ kept)

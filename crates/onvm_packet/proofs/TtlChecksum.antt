@@ -4,13 +4,13 @@ use Rattle.std.proofs.lemmas.Bool.{cases_Bool, cases_lt}
 use Rattle.std.proofs.lemmas.List.{get_or-drop, get_or-take, get_or_past, length-drop, length-take, length-take-le, drop-drop}
 use Rattle.byteorder.specs.Endian.{big_bytes}
 use Rattle.onvm_packet.specs.Bytes.{AreBytes, byte, number}
-use Rattle.onvm_packet.specs.Checksum.{IsRight, swapped}
-use Rattle.onvm_packet.specs.Edits.{written, with_ttl}
+use Rattle.onvm_packet.specs.Checksum.{IsRight, updated_checksum}
+use Rattle.onvm_packet.specs.Edits.{with_bytes_at, with_ttl}
 use Rattle.onvm_packet.specs.Heads.{words_at}
 use Rattle.onvm_packet.specs.Within.{IsRightBehind, HasRightChecksum, header_at}
 use Rattle.onvm_packet.specs.declared.heads.Net.{Net}
 use Rattle.onvm_packet.proofs.Header.{right_stays, ttl_bytes}
-use Rattle.onvm_packet.proofs.Kept.{big_from-same, drop-written, take-written}
+use Rattle.onvm_packet.proofs.Kept.{big_from-same, drop-with_bytes_at, take-with_bytes_at}
 use Rattle.onvm_packet.proofs.TtlHeads.{first-ipv4, found-within, found_ipv4, found_ipv6, net-ipv4, net-ipv6, net_of-ipv4, net_place, new_ipv4, new_ipv6, over_ipv4, with_ttl-ipv4, with_ttl-ipv6, with_ttl-none}
 
 -- the front of some bytes is bytes
@@ -38,20 +38,20 @@ number-header count k at n bytes inside =
     ∙ sym (get_or-drop k (drop at bytes) i 0) ∙ ap (λ (t : List ℕ). get_or t i 0) (drop-drop k at bytes))
 
 module _ (bytes : List ℕ) (ttl : ℕ) (are : AreBytes bytes) (fits : ttl < 256) (found : found_ipv4 bytes ≡ true) where
-  header-new : header_at (net_place bytes) (new_ipv4 ttl bytes) ≡ written 8 (over_ipv4 ttl bytes) (header_at (net_place bytes) bytes)
+  header-new : header_at (net_place bytes) (new_ipv4 ttl bytes) ≡ with_bytes_at 8 (over_ipv4 ttl bytes) (header_at (net_place bytes) bytes)
   header-new =
       let within = found-within bytes ttl found in
       let rest : List ℕ = drop (net_place bytes) bytes in
       let room : length rest ≡ length bytes - net_place bytes = length-drop (net_place bytes) bytes in
       ap (λ (n : ℕ). take (4 * (n % 16)) (drop (net_place bytes) (new_ipv4 ttl bytes))) (first-ipv4 bytes ttl found)
-      ∙ ap (take (4 * words_at (net_place bytes) bytes)) (drop-written (net_place bytes) 8 (over_ipv4 ttl bytes) bytes (omega (arith, within.least, within.whole)))
-      ∙ take-written 8 (over_ipv4 ttl bytes) rest (omega (arith, within.least, within.whole, room)) (4 * words_at (net_place bytes) bytes) (omega (arith, within.least))
+      ∙ ap (take (4 * words_at (net_place bytes) bytes)) (drop-with_bytes_at (net_place bytes) 8 (over_ipv4 ttl bytes) bytes (omega (arith, within.least, within.whole)))
+      ∙ take-with_bytes_at 8 (over_ipv4 ttl bytes) rest (omega (arith, within.least, within.whole, room)) (4 * words_at (net_place bytes) bytes) (omega (arith, within.least))
 
   over-header : over_ipv4 ttl bytes ≡ ttl_bytes ttl (byte (net_place bytes + 9) bytes) (header_at (net_place bytes) bytes)
   over-header =
       let within = found-within bytes ttl found in
       let protocol : ℕ = byte (net_place bytes + 9) bytes in
-      let made : ℕ → ℕ → List ℕ = λ sum old. ttl ∷ protocol ∷ big_bytes 2 (swapped sum old (ttl * 256 + protocol)) in
+      let made : ℕ → ℕ → List ℕ = λ sum old. ttl ∷ protocol ∷ big_bytes 2 (updated_checksum sum old (ttl * 256 + protocol)) in
       let sum = number-header 2 10 (net_place bytes) (4 * words_at (net_place bytes) bytes) bytes (omega (arith, within.least)) in
       let old = number-header 2 8 (net_place bytes) (4 * words_at (net_place bytes) bytes) bytes (omega (arith, within.least)) in
       ap (λ (n : ℕ). made n (number 2 (net_place bytes + 8) bytes)) (sym sum)
@@ -72,7 +72,7 @@ module _ (bytes : List ℕ) (ttl : ℕ) (are : AreBytes bytes) (fits : ttl < 256
       (AreBytes-take size rest (AreBytes-drop (net_place bytes) bytes are)) fits (are (net_place bytes + 9))
       (omega (arith, first, within.version)) right in
       let P : List ℕ → Type 0 = λ h. IsRight h in
-      subst P (ap (λ (over : List ℕ). written 8 over header) (sym over-header) ∙ sym header-new) stays
+      subst P (ap (λ (over : List ℕ). with_bytes_at 8 over header) (sym over-header) ∙ sym header-new) stays
 
   pub stays-ipv4 : HasRightChecksum bytes → HasRightChecksum (with_ttl ttl bytes)
   stays-ipv4 right =

@@ -3,15 +3,15 @@ use Rattle.std.proofs.Common.{◌≡◌, ◌∙◌, sym, ap, ℕ, ◌+◌, ◌*�
 use Rattle.std.proofs.lemmas.Bool.{and_parts, cases_Bool, cond-true, cond-false}
 use Rattle.byteorder.specs.Endian.{big_bytes}
 use Rattle.onvm_packet.specs.Bytes.{byte, number}
-use Rattle.onvm_packet.specs.Checksum.{swapped}
-use Rattle.onvm_packet.specs.Edits.{written, ttl_written, with_ttl, net_with_ttl, heads_with_ttl}
+use Rattle.onvm_packet.specs.Checksum.{updated_checksum}
+use Rattle.onvm_packet.specs.Edits.{with_bytes_at, with_net_ttl, with_ttl, net_with_ttl, heads_with_ttl}
 use Rattle.onvm_packet.specs.Heads.{heads_of, ipv4_at, ipv6_at, is_fragment, is_ipv4, is_ipv6, net_of, ports_at, ports_of, type_at, words_at}
 use Rattle.onvm_packet.specs.Within.{IsIpv4Within}
 use Rattle.onvm_packet.specs.declared.heads.Heads.{Heads}
 use Rattle.onvm_packet.specs.declared.heads.Net.{Net}
 use Rattle.onvm_packet.specs.declared.heads.Net.TheVariants as net
 use Rattle.onvm_packet.proofs.HeadsKept.{vlan-kept, type-kept, net-kept, type_at_least, ports_at-kept, is_ipv4-kept, is_ipv6-kept}
-use Rattle.onvm_packet.proofs.Kept.{length-written, byte-before, byte-over, number-before, number-behind}
+use Rattle.onvm_packet.proofs.Kept.{length-with_bytes_at, byte-before, byte-over, number-before, number-behind}
 use Rattle.onvm_packet.proofs.Within.{ipv4_within, ipv6_within}
 
 -- heads are the same whose parts are
@@ -41,10 +41,10 @@ found_ipv6 bytes = (ethertype_of bytes == 0x86dd) && is_ipv6 (net_place bytes) b
 abbrev pub over_ipv4 : ℕ → List ℕ → List ℕ
 over_ipv4 ttl bytes =
     ttl ∷ byte (net_place bytes + 9) bytes
-    ∷ big_bytes 2 (swapped (number 2 (net_place bytes + 10) bytes) (number 2 (net_place bytes + 8) bytes) (ttl * 256 + byte (net_place bytes + 9) bytes))
+    ∷ big_bytes 2 (updated_checksum (number 2 (net_place bytes + 10) bytes) (number 2 (net_place bytes + 8) bytes) (ttl * 256 + byte (net_place bytes + 9) bytes))
 
 abbrev pub new_ipv4 : ℕ → List ℕ → List ℕ
-new_ipv4 ttl bytes = written (net_place bytes + 8) (over_ipv4 ttl bytes) bytes
+new_ipv4 ttl bytes = with_bytes_at (net_place bytes + 8) (over_ipv4 ttl bytes) bytes
 
 -- with an IPv4 head
 module _ (bytes : List ℕ) (ttl : ℕ) (found : found_ipv4 bytes ≡ true) where
@@ -55,13 +55,13 @@ module _ (bytes : List ℕ) (ttl : ℕ) (found : found_ipv4 bytes ≡ true) wher
   net_of-ipv4 = cond-true (found_ipv4 bytes) _ _ found
 
   pub with_ttl-ipv4 : with_ttl ttl bytes ≡ new_ipv4 ttl bytes
-  with_ttl-ipv4 = ap (λ (n : Net). ttl_written ttl n bytes) net_of-ipv4
+  with_ttl-ipv4 = ap (λ (n : Net). with_net_ttl ttl n bytes) net_of-ipv4
 
   pub fits-ipv4 : net_place bytes + 8 + 4 ≤ length bytes
   fits-ipv4 = omega (arith, found-within.least, found-within.whole)
 
   pub size-ipv4 : length (new_ipv4 ttl bytes) ≡ length bytes
-  size-ipv4 = length-written (net_place bytes + 8) (over_ipv4 ttl bytes) bytes fits-ipv4
+  size-ipv4 = length-with_bytes_at (net_place bytes + 8) (over_ipv4 ttl bytes) bytes fits-ipv4
 
   pub before-ipv4 : (count k : ℕ) → k + count ≤ net_place bytes + 8 → number count k (new_ipv4 ttl bytes) ≡ number count k bytes
   before-ipv4 = number-before (net_place bytes + 8) (over_ipv4 ttl bytes) bytes fits-ipv4
@@ -128,7 +128,7 @@ module _ (bytes : List ℕ) (ttl : ℕ) (found : found_ipv4 bytes ≡ true) wher
       ∙ same_heads _ _ (vlan-kept bytes new size-ipv4 front-ipv4) (type-kept bytes new size-ipv4 front-ipv4) there ports
 
 abbrev pub new_ipv6 : ℕ → List ℕ → List ℕ
-new_ipv6 ttl bytes = written (net_place bytes + 7) (ttl ∷ []) bytes
+new_ipv6 ttl bytes = with_bytes_at (net_place bytes + 7) (ttl ∷ []) bytes
 
 -- with an IPv6 head
 module _ (bytes : List ℕ) (ttl : ℕ) (other : found_ipv4 bytes ≡ false) (found : found_ipv6 bytes ≡ true) where
@@ -139,13 +139,13 @@ module _ (bytes : List ℕ) (ttl : ℕ) (other : found_ipv4 bytes ≡ false) (fo
   net_of-ipv6 = cond-false (found_ipv4 bytes) _ _ other ∙ cond-true (found_ipv6 bytes) _ _ found
 
   pub with_ttl-ipv6 : with_ttl ttl bytes ≡ new_ipv6 ttl bytes
-  with_ttl-ipv6 = ap (λ (n : Net). ttl_written ttl n bytes) net_of-ipv6
+  with_ttl-ipv6 = ap (λ (n : Net). with_net_ttl ttl n bytes) net_of-ipv6
 
   fits-ipv6 : net_place bytes + 7 + 1 ≤ length bytes
   fits-ipv6 = omega (arith, whole-ipv6)
 
   size-ipv6 : length (new_ipv6 ttl bytes) ≡ length bytes
-  size-ipv6 = length-written (net_place bytes + 7) (ttl ∷ []) bytes fits-ipv6
+  size-ipv6 = length-with_bytes_at (net_place bytes + 7) (ttl ∷ []) bytes fits-ipv6
 
   before-ipv6 : (count k : ℕ) → k + count ≤ net_place bytes + 7 → number count k (new_ipv6 ttl bytes) ≡ number count k bytes
   before-ipv6 = number-before (net_place bytes + 7) (ttl ∷ []) bytes fits-ipv6
@@ -209,7 +209,7 @@ module _ (bytes : List ℕ) (ttl : ℕ) (four : found_ipv4 bytes ≡ false) (six
   net_of-none = cond-false (found_ipv4 bytes) _ _ four ∙ cond-false (found_ipv6 bytes) _ _ six
 
   pub with_ttl-none : with_ttl ttl bytes ≡ bytes
-  with_ttl-none = ap (λ (n : Net). ttl_written ttl n bytes) net_of-none
+  with_ttl-none = ap (λ (n : Net). with_net_ttl ttl n bytes) net_of-none
 
   pub heads-none : heads_of (with_ttl ttl bytes) ≡ heads_with_ttl ttl (heads_of bytes)
   heads-none =

@@ -27,5 +27,5 @@ abbrev pub IsRight : List ℕ → Type 0
 IsRight header = ones_sum (words header) ≡ 0xffff
 
 -- RFC 1624, 3: HC' = ~(~HC + ~m + m')
-abbrev pub swapped : ℕ → ℕ → ℕ → ℕ
-swapped sum old new = complement (ones_plus (ones_plus (complement sum) (complement old)) new)
+abbrev pub updated_checksum : ℕ → ℕ → ℕ → ℕ
+updated_checksum sum old new = complement (ones_plus (ones_plus (complement sum) (complement old)) new)

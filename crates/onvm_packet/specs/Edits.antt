@@ -2,34 +2,34 @@
 use Rattle.std.specs.Prelude.{ℕ, ◌+◌, ◌*◌, List, [], ◌∷◌, ◌++◌, length, take, drop}
 use Rattle.byteorder.specs.Endian.{big_bytes}
 use Rattle.onvm_packet.specs.Bytes.{number}
-use Rattle.onvm_packet.specs.Checksum.{swapped}
+use Rattle.onvm_packet.specs.Checksum.{updated_checksum}
 use Rattle.onvm_packet.specs.Heads.{net_of}
 use Rattle.onvm_packet.specs.declared.heads.Heads.{Heads}
 use Rattle.onvm_packet.specs.declared.heads.Net.{Net}
 use Rattle.onvm_packet.specs.declared.heads.Net.TheVariants as net
 
 -- the bytes from an offset on are overwritten by others
-abbrev pub written : ℕ → List ℕ → List ℕ → List ℕ
-written at over bytes = take at bytes ++ (over ++ drop (at + length over) bytes)
+abbrev pub with_bytes_at : ℕ → List ℕ → List ℕ → List ℕ
+with_bytes_at at over bytes = take at bytes ++ (over ++ drop (at + length over) bytes)
 
 -- RFC 791, 3.1: TTL and protocol are bytes 8 and 9 of an IPv4 header, the checksum is bytes 10 and 11.
 -- It is updated for the word of TTL and protocol
-abbrev pub ipv4_ttl_written : ℕ → ℕ → ℕ → List ℕ → List ℕ
-ipv4_ttl_written ttl protocol at bytes =
-    written (at + 8)
+abbrev pub with_ipv4_ttl : ℕ → ℕ → ℕ → List ℕ → List ℕ
+with_ipv4_ttl ttl protocol at bytes =
+    with_bytes_at (at + 8)
     (ttl ∷ protocol
-    ∷ big_bytes 2 (swapped (number 2 (at + 10) bytes) (number 2 (at + 8) bytes) (ttl * 256 + protocol)))
+    ∷ big_bytes 2 (updated_checksum (number 2 (at + 10) bytes) (number 2 (at + 8) bytes) (ttl * 256 + protocol)))
     bytes
 
 -- RFC 8200, 3: the hop limit is byte 7 of an IPv6 header, which has no checksum
-abbrev pub ttl_written : ℕ → Net → List ℕ → List ℕ
-ttl_written ttl net.None bytes = bytes
-ttl_written ttl (net.V4 at source target protocol old) bytes = ipv4_ttl_written ttl protocol at bytes
-ttl_written ttl (net.V6 at source target next hops) bytes = written (at + 7) (ttl ∷ []) bytes
+abbrev pub with_net_ttl : ℕ → Net → List ℕ → List ℕ
+with_net_ttl ttl net.None bytes = bytes
+with_net_ttl ttl (net.V4 at source target protocol old) bytes = with_ipv4_ttl ttl protocol at bytes
+with_net_ttl ttl (net.V6 at source target next hops) bytes = with_bytes_at (at + 7) (ttl ∷ []) bytes
 
 -- the frame with this TTL or hop limit
 abbrev pub with_ttl : ℕ → List ℕ → List ℕ
-with_ttl ttl bytes = ttl_written ttl (net_of bytes) bytes
+with_ttl ttl bytes = with_net_ttl ttl (net_of bytes) bytes
 
 -- Ethernet II: the target's address comes first, then the source's
 abbrev pub with_macs : List ℕ → List ℕ → List ℕ → List ℕ

@@ -1,5 +1,6 @@
 -- The heads of a frame, by byte offset.
 use Rattle.std.specs.Prelude.{ℕ, ◌+◌, ◌*◌, ◌/◌, ◌%◌, ◌==◌, nat_le, Bool, not, ◌&&◌, ◌||◌, if◌then◌else◌, Option, Some, None, List, length}
+use Rattle.onvm_base.specs.declared.limits.TheConstants.{MAX_VLAN}
 use Rattle.onvm_packet.specs.Bytes.{byte, number}
 use Rattle.onvm_packet.specs.declared.heads.Heads.{Heads}
 use Rattle.onvm_packet.specs.declared.heads.Net.{Net}
@@ -12,7 +13,7 @@ is_tagged bytes = (number 2 12 bytes == 0x8100) && nat_le 18 (length bytes)
 
 -- the low 12 bits of the tag
 abbrev pub vlan_of : List ℕ → Option ℕ
-vlan_of bytes = if is_tagged bytes then Some (number 2 14 bytes % 4096) else None
+vlan_of bytes = if is_tagged bytes then Some (number 2 14 bytes % (MAX_VLAN + 1)) else None
 
 -- where the type stands
 abbrev pub type_at : List ℕ → ℕ

@@ -1,6 +1,7 @@
 -- Which frames the tests of a rule hold for.
 use Rattle.std.specs.Prelude.{ℕ, ◌-◌, ◌/◌, ◌^◌, ◌==◌, nat_le, Bool, true, false, ◌&&◌, Option, Some, None}
 use Rattle.onvm_base.specs.declared.ids.PortId.{PortId}
+use Rattle.onvm_base.specs.declared.limits.TheConstants.{IPV4_BITS, IPV6_BITS}
 use Rattle.onvm_base.specs.declared.rules.Prefix.{Prefix}
 use Rattle.onvm_base.specs.declared.rules.Prefix.TheVariants as prefix
 use Rattle.onvm_base.specs.declared.rules.Tests.{Tests}
@@ -9,9 +10,9 @@ use Rattle.onvm_packet.specs.declared.heads.Net.{Net}
 use Rattle.onvm_packet.specs.declared.heads.Net.TheVariants as net
 
 -- a test that isn't there holds
-abbrev pub asked : {A : Type 0} → Option A → (A → Bool) → Bool
-asked None test = true
-asked (Some wanted) test = test wanted
+abbrev pub holds_if_asked : {A : Type 0} → Option A → (A → Bool) → Bool
+holds_if_asked None test = true
+holds_if_asked (Some wanted) test = test wanted
 
 -- a part that the frame hasn't is none that is wanted
 abbrev pub is_part : Option ℕ → ℕ → Bool
@@ -24,12 +25,12 @@ same_front bits length a b = (a / 2 ^ (bits - length)) == (b / 2 ^ (bits - lengt
 
 -- an address is in a prefix. A prefix of one version has no address of the other
 abbrev pub covers_ipv4 : Prefix → ℕ → Bool
-covers_ipv4 (prefix.V4 front length) address = same_front 32 length address front
+covers_ipv4 (prefix.V4 front length) address = same_front IPV4_BITS length address front
 covers_ipv4 (prefix.V6 front length) address = false
 
 abbrev pub covers_ipv6 : Prefix → ℕ → Bool
 covers_ipv6 (prefix.V4 front length) address = false
-covers_ipv6 (prefix.V6 front length) address = same_front 128 length address front
+covers_ipv6 (prefix.V6 front length) address = same_front IPV6_BITS length address front
 
 abbrev pub has_source : Net → Prefix → Bool
 has_source (net.V4 at source target protocol ttl) wanted = covers_ipv4 wanted source
@@ -61,11 +62,11 @@ has_target_port (Some ports) range = is_from range ports.1
 -- all tests hold for a frame with these heads that a port received
 abbrev pub do_hold : Tests → PortId → Heads → Bool
 do_hold tests port heads =
-    asked tests.port (λ wanted. port.0 == wanted)
-    && asked tests.vlan (is_part heads.vlan)
-    && asked tests.ethertype (is_part heads.ethertype)
-    && asked tests.src (has_source heads.net)
-    && asked tests.dst (has_target heads.net)
-    && asked tests.protocol (is_part (protocol_of heads.net))
-    && asked tests.src_ports (has_source_port heads.ports)
-    && asked tests.dst_ports (has_target_port heads.ports)
+    holds_if_asked tests.port (λ wanted. port.0 == wanted)
+    && holds_if_asked tests.vlan (is_part heads.vlan)
+    && holds_if_asked tests.ethertype (is_part heads.ethertype)
+    && holds_if_asked tests.src (has_source heads.net)
+    && holds_if_asked tests.dst (has_target heads.net)
+    && holds_if_asked tests.protocol (is_part (protocol_of heads.net))
+    && holds_if_asked tests.src_ports (has_source_port heads.ports)
+    && holds_if_asked tests.dst_ports (has_target_port heads.ports)

@@ -2,7 +2,8 @@ pub mod Bytes
 pub mod Checksum
 pub mod Edits
 pub mod Flow
+pub mod FlowKeys
+pub mod HeadPlaces
 pub mod Heads
 pub mod Holding
-pub mod Places
 pub mod Within

@@ -1,10 +1,10 @@
 //! The Internet checksum.
 ghost use Rattle.std.specs.Prelude.{◌≡◌};
-ghost use Rattle.onvm_packet.specs.Checksum.{ones_plus, swapped};
+ghost use Rattle.onvm_packet.specs.Checksum.{ones_plus, updated_checksum};
 
 /// The checksum `sum` after a word that it covers has changed (RFC 1624).
 pub fn swap_word(sum: u16, old: u16, new: u16) -> u16
-    ensures { result ≡ swapped sum old new }
+    ensures { result ≡ updated_checksum sum old new }
 {
     !ones_plus(ones_plus(!sum, !old), new)
 }

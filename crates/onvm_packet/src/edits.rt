@@ -2,13 +2,13 @@
 ghost use Rattle.std.specs.Prelude.{◌≡◌, ◌≢◌, ◌+◌, ◌≤◌, length, IsTrue, OnOk, OnErr};
 ghost use Rattle.onvm_packet.specs.Bytes.{byte};
 ghost use Rattle.onvm_packet.specs.Heads.{net_of, is_tagged};
-ghost use Rattle.onvm_packet.specs.Edits.{written, ipv4_ttl_written, with_ttl, with_macs, with_tag, without_tag};
+ghost use Rattle.onvm_packet.specs.Edits.{with_bytes_at, with_ipv4_ttl, with_ttl, with_macs, with_tag, without_tag};
 ghost use Rattle.onvm_base.specs.declared.limits.TheConstants.{MAX_FRAME_BYTES};
 ghost use Rattle.onvm_packet.specs.declared.heads.Net.TheVariants as net;
 ghost use Rattle.onvm_packet.specs.declared.heads.TheConstants.{ETHERNET_LEN, TAG_LEN};
 
 use crate::checksum::swap_word;
-use crate::heads::{Place, TAG_LEN, TYPE_AT, locate};
+use crate::heads::{HeadPlace, TAG_LEN, TYPE_AT, locate};
 use crate::words::{u8_at, u16_at};
 use onvm_base::{NoMemory, Packet};
 
@@ -18,16 +18,16 @@ pub fn set_ttl(packet: &mut Packet, ttl: u8)
     ensures { packet.new ≡ with_ttl ttl packet.old }
 {
     match locate(packet.bytes()) {
-        Place::None => {}
-        Place::V4(at) => set_ipv4_ttl(packet, at, ttl),
-        Place::V6(at) => packet.overwrite(at + 7, &[ttl]),
+        HeadPlace::None => {}
+        HeadPlace::V4(at) => set_ipv4_ttl(packet, at, ttl),
+        HeadPlace::V6(at) => packet.overwrite(at + 7, &[ttl]),
     }
 }
 
 // Sets the TTL and the checksum of the IPv4 header that begins at an offset.
 fn set_ipv4_ttl(packet: &mut Packet, at: usize, ttl: u8)
     requires { at + 20 ≤ length packet.old }
-    ensures { packet.new ≡ ipv4_ttl_written ttl (byte (at + 9) packet.old) at packet.old }
+    ensures { packet.new ≡ with_ipv4_ttl ttl (byte (at + 9) packet.old) at packet.old }
 {
     let protocol = u8_at(packet.bytes(), at + 9);
     let sum = u16_at(packet.bytes(), at + 10);

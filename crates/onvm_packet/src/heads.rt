@@ -2,9 +2,10 @@
 ghost use Rattle.std.specs.Prelude.{◌≡◌, ◌+◌, ◌<◌, ◌≤◌, length, IsTrue};
 ghost use Rattle.onvm_packet.specs.Bytes.{number};
 ghost use Rattle.onvm_packet.specs.Heads.{heads_of, is_tagged, type_at, net_of, net_at, ports_of, is_ipv4, is_ipv6, ipv4_at, ipv6_at, is_fragment, ports_at, ttl_of};
-ghost use Rattle.onvm_packet.specs.Places.{IsPlace};
+ghost use Rattle.onvm_packet.specs.HeadPlaces.{IsHeadPlace, IsHeadPlaceAt};
 
 use crate::words::{u8_at, u16_at, u32_at, u128_at};
+use onvm_base::MAX_VLAN;
 
 /// The bytes of an Ethernet II head: two addresses and the type.
 pub const ETHERNET_LEN: usize = 14;
@@ -71,7 +72,7 @@ pub enum Net {
 
 // The version of a network head, and where it begins.
 #[derive(Clone, Copy, Debug, PartialEq, Eq)]
-pub(crate) enum Place {
+pub(crate) enum HeadPlace {
     None,
     V4(usize),
     V6(usize),
@@ -90,7 +91,7 @@ pub fn parse(bytes: &[u8]) -> Heads
         };
     }
     if is_tagged(bytes) {
-        let vlan = u16_at(bytes, TAG_AT) % 4096;
+        let vlan = u16_at(bytes, TAG_AT) % (MAX_VLAN + 1);
         read_heads(Some(vlan), TAGGED_TYPE_AT, bytes)
     } else {
         read_heads(None, TYPE_AT, bytes)
@@ -102,9 +103,9 @@ pub fn network(bytes: &[u8]) -> Net
     ensures { result ≡ net_of bytes.now }
 {
     match locate(bytes) {
-        Place::None => Net::None,
-        Place::V4(at) => ipv4(at, bytes),
-        Place::V6(at) => ipv6(at, bytes),
+        HeadPlace::None => Net::None,
+        HeadPlace::V4(at) => ipv4(at, bytes),
+        HeadPlace::V6(at) => ipv6(at, bytes),
     }
 }
 
@@ -113,32 +114,38 @@ pub fn ttl(bytes: &[u8]) -> Option<u8>
     ensures { result ≡ ttl_of (net_of bytes.now) }
 {
     match locate(bytes) {
-        Place::None => None,
-        Place::V4(at) => Some(u8_at(bytes, at + 8)),
-        Place::V6(at) => Some(u8_at(bytes, at + 7)),
+        HeadPlace::None => None,
+        HeadPlace::V4(at) => Some(u8_at(bytes, at + 8)),
+        HeadPlace::V6(at) => Some(u8_at(bytes, at + 7)),
     }
 }
 
 // Where the network head begins.
-pub(crate) fn locate(bytes: &[u8]) -> Place
-    ensures { IsPlace result bytes.now }
+pub(crate) fn locate(bytes: &[u8]) -> HeadPlace
+    ensures { IsHeadPlace result bytes.now }
 {
     if bytes.len() < ETHERNET_LEN {
-        return Place::None;
+        return HeadPlace::None;
     }
     let type_at = if is_tagged(bytes) {
         TAGGED_TYPE_AT
     } else {
         TYPE_AT
     };
-    let ethertype = u16_at(bytes, type_at);
-    let at = type_at + 2;
+    place_behind(u16_at(bytes, type_at), type_at + 2, bytes)
+}
+
+// Where the network head begins that stands at an offset, behind this type, if it is a whole one.
+fn place_behind(ethertype: u16, at: usize, bytes: &[u8]) -> HeadPlace
+    requires { at < 100 }
+    ensures { IsHeadPlaceAt result ethertype at bytes.now }
+{
     if ethertype == IPV4_TYPE && is_ipv4(at, bytes) {
-        Place::V4(at)
+        HeadPlace::V4(at)
     } else if ethertype == IPV6_TYPE && is_ipv6(at, bytes) {
-        Place::V6(at)
+        HeadPlace::V6(at)
     } else {
-        Place::None
+        HeadPlace::None
     }
 }
 
@@ -176,12 +183,10 @@ fn read_net(ethertype: u16, at: usize, bytes: &[u8]) -> (Net, Option<(u16, u16)>
     ensures net { result.0 ≡ net_at ethertype at bytes.now }
     ensures ports { result.1 ≡ ports_of (net_at ethertype at bytes.now) bytes.now }
 {
-    if ethertype == IPV4_TYPE && is_ipv4(at, bytes) {
-        read_ipv4(at, bytes)
-    } else if ethertype == IPV6_TYPE && is_ipv6(at, bytes) {
-        read_ipv6(at, bytes)
-    } else {
-        (Net::None, None)
+    match place_behind(ethertype, at, bytes) {
+        HeadPlace::None => (Net::None, None),
+        HeadPlace::V4(at) => read_ipv4(at, bytes),
+        HeadPlace::V6(at) => read_ipv6(at, bytes),
     }
 }
 

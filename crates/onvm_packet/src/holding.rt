@@ -1,9 +1,10 @@
 //! Which frames the tests of a rule hold for.
 ghost use Rattle.std.specs.Prelude.{◌≡◌, ◌==◌};
-ghost use Rattle.onvm_packet.specs.Holding.{asked, do_hold, has_source, has_source_port, has_target, has_target_port, is_from, is_part, protocol_of, same_front};
+ghost use Rattle.onvm_base.specs.declared.limits.TheConstants.{IPV4_BITS, IPV6_BITS};
+ghost use Rattle.onvm_packet.specs.Holding.{holds_if_asked, do_hold, has_source, has_source_port, has_target, has_target_port, is_from, is_part, protocol_of, same_front};
 
 use crate::heads::{Heads, Net};
-use onvm_base::{PortId, Prefix, Tests};
+use onvm_base::{IPV4_BITS, IPV6_BITS, PortId, Prefix, Tests};
 
 /// Whether each test that is there holds for a frame with these heads that a port received. A test
 /// of a part that the frame hasn't got fails.
@@ -21,7 +22,7 @@ pub fn holds(tests: &Tests, port: PortId, heads: &Heads) -> bool
 }
 
 fn is_port(wanted: Option<u8>, port: PortId) -> bool
-    ensures { result ≡ asked wanted (λ wanted. port.0 == wanted) }
+    ensures { result ≡ holds_if_asked wanted (λ wanted. port.0 == wanted) }
 {
     match wanted {
         Some(wanted) => port.0 == wanted,
@@ -30,7 +31,7 @@ fn is_port(wanted: Option<u8>, port: PortId) -> bool
 }
 
 fn is_word(wanted: Option<u16>, part: Option<u16>) -> bool
-    ensures { result ≡ asked wanted (is_part part) }
+    ensures { result ≡ holds_if_asked wanted (is_part part) }
 {
     match (wanted, part) {
         (Some(wanted), Some(part)) => part == wanted,
@@ -40,7 +41,7 @@ fn is_word(wanted: Option<u16>, part: Option<u16>) -> bool
 }
 
 fn is_protocol(wanted: Option<u8>, net: &Net) -> bool
-    ensures { result ≡ asked wanted (is_part (protocol_of net.now)) }
+    ensures { result ≡ holds_if_asked wanted (is_part (protocol_of net.now)) }
 {
     match (wanted, *net) {
         (None, _) => true,
@@ -51,7 +52,7 @@ fn is_protocol(wanted: Option<u8>, net: &Net) -> bool
 }
 
 fn is_source(wanted: Option<Prefix>, net: &Net) -> bool
-    ensures { result ≡ asked wanted (has_source net.now) }
+    ensures { result ≡ holds_if_asked wanted (has_source net.now) }
 {
     match wanted {
         Some(wanted) => has_source(net, wanted),
@@ -60,7 +61,7 @@ fn is_source(wanted: Option<Prefix>, net: &Net) -> bool
 }
 
 fn is_target(wanted: Option<Prefix>, net: &Net) -> bool
-    ensures { result ≡ asked wanted (has_target net.now) }
+    ensures { result ≡ holds_if_asked wanted (has_target net.now) }
 {
     match wanted {
         Some(wanted) => has_target(net, wanted),
@@ -98,21 +99,21 @@ fn has_target(net: &Net, wanted: Prefix) -> bool
 
 // Whether two addresses have the same first bits.
 fn same_front_v4(length: u8, a: u32, b: u32) -> bool
-    ensures { result ≡ same_front 32 length a b }
+    ensures { result ≡ same_front IPV4_BITS length a b }
 {
-    let free = 32u8.saturating_sub(length);
+    let free = IPV4_BITS.saturating_sub(length);
     u64::from(a) >> free == u64::from(b) >> free
 }
 
 fn same_front_v6(length: u8, a: u128, b: u128) -> bool
-    ensures { result ≡ same_front 128 length a b }
+    ensures { result ≡ same_front IPV6_BITS length a b }
 {
-    let free = 128u8.saturating_sub(length);
-    free == 128 || a >> free == b >> free
+    let free = IPV6_BITS.saturating_sub(length);
+    free == IPV6_BITS || a >> free == b >> free
 }
 
 fn is_source_port(wanted: Option<(u16, u16)>, ports: Option<(u16, u16)>) -> bool
-    ensures { result ≡ asked wanted (has_source_port ports) }
+    ensures { result ≡ holds_if_asked wanted (has_source_port ports) }
 {
     match (wanted, ports) {
         (Some(range), Some((source, _))) => is_from(range, source),
@@ -122,7 +123,7 @@ fn is_source_port(wanted: Option<(u16, u16)>, ports: Option<(u16, u16)>) -> bool
 }
 
 fn is_target_port(wanted: Option<(u16, u16)>, ports: Option<(u16, u16)>) -> bool
-    ensures { result ≡ asked wanted (has_target_port ports) }
+    ensures { result ≡ holds_if_asked wanted (has_target_port ports) }
 {
     match (wanted, ports) {
         (Some(range), Some((_, target))) => is_from(range, target),

@@ -9,6 +9,7 @@
 mod checksum;
 mod edits;
 mod flow;
+mod flow_key;
 mod heads;
 mod holding;
 pub mod laws;
@@ -19,5 +20,6 @@ mod words;
 pub use checksum::swap_word;
 pub use edits::{pop_tag, push_tag, set_macs, set_ttl};
 pub use flow::{FiveTuple, five_tuple, flow_hash};
+pub use flow_key::{FlowEnds, FlowKey};
 pub use heads::{ETHERNET_LEN, Heads, Net, TAG_LEN, is_tagged, network, parse, ttl};
 pub use holding::holds;

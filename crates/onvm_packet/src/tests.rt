@@ -2,5 +2,6 @@
 
 mod edits;
 mod frames;
+mod flow_key;
 mod heads;
 mod holding;

@@ -2,10 +2,10 @@
 use Rattle.std.proofs.Common.{◌≡◌, ◌∙◌, sym, ap, subst, refl, ◌⊎◌, inl, inr, ℕ, true, ◌+◌, ◌<◌, Some, List, [], ◌∷◌, ◌++◌, length, append_assoc, arith}
 use Rattle.std.proofs.lemmas.List.{append-nil}
 use Rattle.onvm_base.specs.declared.frame.Frame.{Frame}
-use Rattle.pcap_in.specs.Calls.{Call, Feed, Finish, Next, HasRead, Lead, fed_by, given_by, if_frame}
+use Rattle.pcap_in.specs.Calls.{Call, Feed, Finish, Next, HasRead, Lead, bytes_fed_by, frames_given_by, frames_of_pull}
 use Rattle.pcap_in.specs.Classic.{AreRecords, IsCapture, IsCaptureIn}
 use Rattle.pcap_in.specs.Faulty.{EndsInRecord, IsCaptureUpTo}
-use Rattle.pcap_in.specs.Reading.{AreLeft, AtRecord, EndsInHeader, IsFaulty, Reading, Pulls, unfed}
+use Rattle.pcap_in.specs.Reading.{AreLeft, AtRecord, EndsInHeader, IsFaulty, Reading, Pulls, unfed_reading}
 use Rattle.pcap_in.specs.declared.pull.PcapFault.TheVariants.{Torn}
 use Rattle.pcap_in.specs.declared.pull.Pull.{Pull}
 use Rattle.pcap_in.specs.declared.pull.Pull.TheVariants as pull
@@ -18,7 +18,7 @@ use Rattle.pcap_in.proofs.Told.{ended}
 
 -- an answer is a frame more, or none
 HasRead-answered : (fed : List ℕ) (frames : List Frame) (answer : Pull) (old new : Reading) → HasRead fed frames old
-    → Pulls old answer new → HasRead fed (frames ++ if_frame answer) new
+    → Pulls old answer new → HasRead fed (frames ++ frames_of_pull answer) new
 HasRead-answered fed frames (pull.Frame frame) old new read pulls = HasRead-pulled fed frames frame old new read pulls
 HasRead-answered fed frames pull.More old new read pulls =
     rw (append-nil frames, pulls.0) read
@@ -27,27 +27,27 @@ HasRead-answered fed frames (pull.Bad fault) old new read pulls = rw (append-nil
 
 -- behind calls, the bytes that they fed are those of the frames that they gave, and what is left
 pub HasRead-led : (calls : List Call) (fed : List ℕ) (frames : List Frame) (old new : Reading) → HasRead fed frames old
-    → Lead calls old new → HasRead (fed ++ fed_by calls) (frames ++ given_by calls) new
+    → Lead calls old new → HasRead (fed ++ bytes_fed_by calls) (frames ++ frames_given_by calls) new
 HasRead-led [] fed frames old new read lead = rw (append-nil fed, append-nil frames, lead) read
 HasRead-led (Feed piece ∷ calls) fed frames old new read (unfinished, lead) =
     let between : Reading = record old { rest = old.rest ++ piece } in
     let next = HasRead-fed fed piece frames old between read refl refl refl in
-    let P : List ℕ → Type 0 = λ t. HasRead t (frames ++ given_by calls) new in
-    subst P (append_assoc fed piece (fed_by calls)) (HasRead-led calls (fed ++ piece) frames between new next lead)
+    let P : List ℕ → Type 0 = λ t. HasRead t (frames ++ frames_given_by calls) new in
+    subst P (append_assoc fed piece (bytes_fed_by calls)) (HasRead-led calls (fed ++ piece) frames between new next lead)
 HasRead-led (Finish ∷ calls) fed frames old new read lead =
     let between : Reading = record old { finished = true } in
     let next = HasRead-fed fed [] frames old between read refl refl (sym (append-nil old.rest)) in
-    let P : List ℕ → Type 0 = λ t. HasRead (t ++ fed_by calls) (frames ++ given_by calls) new in
+    let P : List ℕ → Type 0 = λ t. HasRead (t ++ bytes_fed_by calls) (frames ++ frames_given_by calls) new in
     subst P (append-nil fed) (HasRead-led calls (fed ++ []) frames between new next lead)
 HasRead-led (Next answer ∷ calls) fed frames old new read (between, pulls, lead) =
     let next = HasRead-answered fed frames answer old between read pulls in
-    let P : List Frame → Type 0 = λ fs. HasRead (fed ++ fed_by calls) fs new in
-    subst P (append_assoc frames (if_frame answer) (given_by calls))
-    (HasRead-led calls fed (frames ++ if_frame answer) between new next lead)
+    let P : List Frame → Type 0 = λ fs. HasRead (fed ++ bytes_fed_by calls) fs new in
+    subst P (append_assoc frames (frames_of_pull answer) (frames_given_by calls))
+    (HasRead-led calls fed (frames ++ frames_of_pull answer) between new next lead)
 
 -- so it is from the begin on
-pub HasRead-begun : (calls : List Call) (new : Reading) → Lead calls unfed new → HasRead (fed_by calls) (given_by calls) new
-HasRead-begun calls new lead = HasRead-led calls [] [] unfed new (inl (refl, refl, refl, refl)) lead
+pub HasRead-begun : (calls : List Call) (new : Reading) → Lead calls unfed_reading new → HasRead (bytes_fed_by calls) (frames_given_by calls) new
+HasRead-begun calls new lead = HasRead-led calls [] [] unfed_reading new (inl (refl, refl, refl, refl)) lead
 
 -- of two lists of records of one text, as many of each are the same
 records_even : (s : Spelling) (a b c d : List ℕ) (xs ys : List Frame) → AreRecords s a xs → AreRecords s b ys → a ++ c ≡ b ++ d
@@ -93,12 +93,12 @@ HasRead-same fed xs ys r q (inr here) (inr there) even finished =
     omega (arith, HasRead-length fed xs r (inr here), HasRead-length fed ys q (inr there), ap (length {A = ℕ}) one.2) in
     (one.1, reading_same r q spelling place one.2 finished)
 
-pub led_same : (calls others : List Call) (reading other : Reading) → Lead calls unfed reading → Lead others unfed other
-    → fed_by calls ≡ fed_by others → length (given_by calls) ≡ length (given_by others) → reading.finished ≡ other.finished
-    → (given_by calls ≡ given_by others) × (reading ≡ other)
+pub led_same : (calls others : List Call) (reading other : Reading) → Lead calls unfed_reading reading → Lead others unfed_reading other
+    → bytes_fed_by calls ≡ bytes_fed_by others → length (frames_given_by calls) ≡ length (frames_given_by others) → reading.finished ≡ other.finished
+    → (frames_given_by calls ≡ frames_given_by others) × (reading ≡ other)
 led_same calls others reading other lead lead' fed even finished =
-    let P : List ℕ → Type 0 = λ t. HasRead t (given_by others) other in
-    HasRead-same (fed_by calls) (given_by calls) (given_by others) reading other (HasRead-begun calls reading lead)
+    let P : List ℕ → Type 0 = λ t. HasRead t (frames_given_by others) other in
+    HasRead-same (bytes_fed_by calls) (frames_given_by calls) (frames_given_by others) reading other (HasRead-begun calls reading lead)
     (subst P (sym fed) (HasRead-begun others other lead')) even finished
 
 -- of a capture that was fed, the frames that were not given are left

@@ -11,7 +11,7 @@ use Rattle.pcap_in.specs.declared.pull.PcapFault.{PcapFault}
 use Rattle.pcap_in.specs.declared.pull.PcapFault.TheVariants.{Magic, Version, Link, Torn, TooLong, Fraction}
 use Rattle.pcap_in.specs.declared.spelling.Endian.{Endian}
 use Rattle.pcap_in.specs.declared.spelling.Endian.TheVariants.{Little, Big}
-use Rattle.pcap_in.specs.declared.spelling.Head.{Head}
+use Rattle.pcap_in.specs.declared.spelling.RecordHead.{RecordHead}
 use Rattle.pcap_in.specs.declared.spelling.Spelling.{Spelling}
 use Rattle.pcap_in.specs.declared.spelling.Unit.{Unit}
 use Rattle.pcap_in.specs.declared.spelling.Unit.TheVariants.{Micros, Nanos}
@@ -83,7 +83,7 @@ whole_record : (s : Spelling) (text : List ℕ) → number s.endian 4 8 text ≤
     → number s.endian 4 4 text < per_second s.unit → 16 + number s.endian 4 8 text ≤ length text
     → (frame : Frame) × IsRecord s (take (16 + number s.endian 4 8 text) text) frame
 whole_record s text limit fraction whole =
-    let head : Head = head_of s.endian text in
+    let head : RecordHead = head_of s.endian text in
     let is = record_of s text head (in_nanos s.unit head.fraction) (head.original - head.included) refl whole limit fraction refl refl in
     (_, is.1)
 

@@ -7,7 +7,7 @@ use Rattle.pcap_in.specs.Classic.{HasMagic, IsHeader, IsRecord}
 use Rattle.pcap_in.specs.Spelling.{head_of, in_nanos, number, per_second}
 use Rattle.pcap_in.specs.declared.spelling.Endian.{Endian}
 use Rattle.pcap_in.specs.declared.spelling.Endian.TheVariants.{Little, Big}
-use Rattle.pcap_in.specs.declared.spelling.Head.{Head}
+use Rattle.pcap_in.specs.declared.spelling.RecordHead.{RecordHead}
 use Rattle.pcap_in.specs.declared.spelling.Spelling.{Spelling}
 
 -- lists that are the same at some places have the same number in them
@@ -61,7 +61,7 @@ header_of spelling rest whole magic major minor link = (
 )
 
 -- a head that keeps the rules, and the bytes that it counts, are a record
-pub record_of : (spelling : Spelling) (rest : List ℕ) (head : Head) (nanos tail : ℕ) → head ≡ head_of spelling.endian rest
+pub record_of : (spelling : Spelling) (rest : List ℕ) (head : RecordHead) (nanos tail : ℕ) → head ≡ head_of spelling.endian rest
     → 16 + head.included ≤ length rest → head.included ≤ MAX_FRAME_BYTES → head.fraction < per_second spelling.unit
     → nanos ≡ in_nanos spelling.unit head.fraction → tail ≡ head.original - head.included
     → (16 + head.included ≤ length rest)
@@ -74,12 +74,12 @@ record_of spelling rest head nanos tail is whole limit fraction nanos-is tail-is
     let at4 = number-take spelling.endian 4 4 (16 + len) rest (omega arith) in
     let at8 = number-take spelling.endian 4 8 (16 + len) rest (omega arith) in
     let at12 = number-take spelling.endian 4 12 (16 + len) rest (omega arith) in
-    let fractions : head.fraction ≡ number spelling.endian 4 4 (take (16 + len) rest) = ap (λ (h : Head). h.fraction) is ∙ sym at4 in
-    let included : len ≡ number spelling.endian 4 8 (take (16 + len) rest) = ap (λ (h : Head). h.included) is ∙ sym at8 in
-    let original : head.original ≡ number spelling.endian 4 12 (take (16 + len) rest) = ap (λ (h : Head). h.original) is ∙ sym at12 in (
+    let fractions : head.fraction ≡ number spelling.endian 4 4 (take (16 + len) rest) = ap (λ (h : RecordHead). h.fraction) is ∙ sym at4 in
+    let included : len ≡ number spelling.endian 4 8 (take (16 + len) rest) = ap (λ (h : RecordHead). h.included) is ∙ sym at8 in
+    let original : head.original ≡ number spelling.endian 4 12 (take (16 + len) rest) = ap (λ (h : RecordHead). h.original) is ∙ sym at12 in (
       whole,
       record {
-        seconds = ap (λ (h : Head). h.seconds) is ∙ sym at0;
+        seconds = ap (λ (h : RecordHead). h.seconds) is ∙ sym at0;
         fraction = omega (arith, fractions, fraction);
         nanos = nanos-is ∙ ap (in_nanos spelling.unit) fractions;
         included = sym included ∙ sym size;

@@ -22,25 +22,25 @@ Lead (Finish ∷ calls) old new = Lead calls (record old { finished = true }) ne
 Lead (Next answer ∷ calls) old new = (between : Reading) × Pulls old answer between × Lead calls between new
 
 -- the bytes that were fed
-abbrev pub fed_by : List Call → List ℕ
-fed_by [] = []
-fed_by (Feed piece ∷ calls) = piece ++ fed_by calls
-fed_by (Finish ∷ calls) = fed_by calls
-fed_by (Next answer ∷ calls) = fed_by calls
+abbrev pub bytes_fed_by : List Call → List ℕ
+bytes_fed_by [] = []
+bytes_fed_by (Feed piece ∷ calls) = piece ++ bytes_fed_by calls
+bytes_fed_by (Finish ∷ calls) = bytes_fed_by calls
+bytes_fed_by (Next answer ∷ calls) = bytes_fed_by calls
 
 -- the frame of an answer, if it is one
-abbrev pub if_frame : Pull → List Frame
-if_frame (pull.Frame frame) = frame ∷ []
-if_frame pull.More = []
-if_frame pull.End = []
-if_frame (pull.Bad fault) = []
+abbrev pub frames_of_pull : Pull → List Frame
+frames_of_pull (pull.Frame frame) = frame ∷ []
+frames_of_pull pull.More = []
+frames_of_pull pull.End = []
+frames_of_pull (pull.Bad fault) = []
 
 -- the frames that were given
-abbrev pub given_by : List Call → List Frame
-given_by [] = []
-given_by (Feed piece ∷ calls) = given_by calls
-given_by (Finish ∷ calls) = given_by calls
-given_by (Next answer ∷ calls) = if_frame answer ++ given_by calls
+abbrev pub frames_given_by : List Call → List Frame
+frames_given_by [] = []
+frames_given_by (Feed piece ∷ calls) = frames_given_by calls
+frames_given_by (Finish ∷ calls) = frames_given_by calls
+frames_given_by (Next answer ∷ calls) = frames_of_pull answer ++ frames_given_by calls
 
 -- some frames were given: the bytes fed are a capture of them and then the reader's rest
 pub record IsBehind (fed : List ℕ) (frames : List Frame) (reading : Reading) : Type 0 where

@@ -3,6 +3,7 @@ use Rattle.std.specs.Prelude.{◌≡◌, ℕ, ◌+◌, ◌-◌, ◌<◌, ◌≤�
 use Rattle.onvm_base.specs.declared.frame.Frame.{Frame}
 use Rattle.onvm_base.specs.declared.limits.TheConstants.{MAX_FRAME_BYTES}
 use Rattle.pcap_in.specs.Spelling.{in_nanos, magic_of, number, per_second}
+use Rattle.pcap_in.specs.declared.judge.TheConstants.{HEADER_LEN, HEAD_LEN}
 use Rattle.pcap_in.specs.declared.spelling.Spelling.{Spelling}
 
 -- the bytes begin as a capture of this spelling does
@@ -11,7 +12,7 @@ HasMagic spelling bytes = take 4 bytes ≡ magic_of spelling.endian spelling.uni
 
 -- the 24 bytes before the records. Zone at 8, accuracy at 12 and snap length at 16 are as they are
 pub record IsHeader (spelling : Spelling) (bytes : List ℕ) : Type 0 where
-  pub size : length bytes ≡ 24
+  pub size : length bytes ≡ HEADER_LEN
   pub magic : HasMagic spelling bytes
   pub major : number spelling.endian 2 4 bytes ≡ 2
   pub minor : number spelling.endian 2 6 bytes ≡ 4
@@ -25,8 +26,8 @@ pub record IsRecord (spelling : Spelling) (bytes : List ℕ) (frame : Frame) : T
   pub included : number spelling.endian 4 8 bytes ≡ length frame.packet
   pub limit : length frame.packet ≤ MAX_FRAME_BYTES
   pub tail : frame.stamp.tail ≡ number spelling.endian 4 12 bytes - number spelling.endian 4 8 bytes
-  pub size : length bytes ≡ 16 + length frame.packet
-  pub packet : frame.packet ≡ drop 16 bytes
+  pub size : length bytes ≡ HEAD_LEN + length frame.packet
+  pub packet : frame.packet ≡ drop HEAD_LEN bytes
 
 -- a text is the records of these frames, in order and to its end
 abbrev pub AreRecords : Spelling → List ℕ → List Frame → Type 0

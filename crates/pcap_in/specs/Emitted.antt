@@ -1,4 +1,5 @@
--- The emitted spelling: numbers low byte first, nanoseconds, snap length 262,144, link type Ethernet.
+-- The emitted spelling: numbers low byte first, nanoseconds, link type Ethernet. The snap length is the most bytes of a
+-- frame.
 use Rattle.std.specs.Prelude.{ℕ, ◌+◌, ◌-◌, ◌<◌, ◌≤◌, ◌^◌, min, List, ◌++◌, length}
 use Rattle.std.specs.List.{flat_map}
 use Rattle.byteorder.specs.Endian.{little_bytes}
@@ -10,7 +11,7 @@ use Rattle.onvm_base.specs.declared.limits.TheConstants.{MAX_FRAME_BYTES}
 abbrev pub emitted_header : List ℕ
 emitted_header =
     little_bytes 4 0xa1b23c4d ++ little_bytes 2 2 ++ little_bytes 2 4 ++ little_bytes 4 0 ++ little_bytes 4 0
-    ++ little_bytes 4 262144 ++ little_bytes 4 1
+    ++ little_bytes 4 MAX_FRAME_BYTES ++ little_bytes 4 1
 
 -- the original length is included length and tail together, as far as four bytes go
 abbrev pub emitted_head : Stamp → ℕ → List ℕ

@@ -4,6 +4,7 @@ use Rattle.onvm_base.specs.declared.frame.Frame.{Frame}
 use Rattle.onvm_base.specs.declared.limits.TheConstants.{MAX_FRAME_BYTES}
 use Rattle.pcap_in.specs.Classic.{HasMagic, IsHeader, IsRecord}
 use Rattle.pcap_in.specs.Spelling.{number, per_second}
+use Rattle.pcap_in.specs.declared.judge.TheConstants.{HEADER_LEN, HEAD_LEN}
 use Rattle.pcap_in.specs.declared.pull.PcapFault.{PcapFault}
 use Rattle.pcap_in.specs.declared.pull.PcapFault.TheVariants.{Magic, Version, Link, Torn, TooLong, Fraction}
 use Rattle.pcap_in.specs.declared.spelling.Spelling.{Spelling}
@@ -11,10 +12,10 @@ use Rattle.pcap_in.specs.declared.spelling.Spelling.{Spelling}
 -- the bytes end before a record's head is whole, or inside a record whose head keeps the rules
 abbrev pub EndsInRecord : Spelling → List ℕ → Type 0
 EndsInRecord spelling rest =
-    (length rest < 16)
+    (length rest < HEAD_LEN)
     ⊎ ((number spelling.endian 4 8 rest ≤ MAX_FRAME_BYTES)
     × (number spelling.endian 4 4 rest < per_second spelling.unit)
-    × (length rest < 16 + number spelling.endian 4 8 rest))
+    × (length rest < HEAD_LEN + number spelling.endian 4 8 rest))
 
 -- the version is 2.4
 abbrev pub HasVersion : Spelling → List ℕ → Type 0
@@ -56,7 +57,7 @@ IsTornRecord spelling at rest finished (Fraction place) = ⊥
 -- the bytes from an offset on are the records of these frames, and then one that breaks a rule or is torn
 abbrev pub AreRecordsUpTo : Spelling → ℕ → List ℕ → List Frame → PcapFault → Type 0
 AreRecordsUpTo spelling at text [] fault =
-    ((16 ≤ length text) × BreaksRecord spelling at text fault) ⊎ IsTornRecord spelling at text true fault
+    ((HEAD_LEN ≤ length text) × BreaksRecord spelling at text fault) ⊎ IsTornRecord spelling at text true fault
 AreRecordsUpTo spelling at text (frame ∷ frames) fault =
     (record_bytes rest : List ℕ) × (text ≡ record_bytes ++ rest) × IsRecord spelling record_bytes frame
     × AreRecordsUpTo spelling (at + length record_bytes) rest frames fault
@@ -64,7 +65,7 @@ AreRecordsUpTo spelling at text (frame ∷ frames) fault =
 -- a text has these frames, and then this fault
 abbrev pub IsCaptureUpTo : List ℕ → List Frame → PcapFault → Type 0
 IsCaptureUpTo text frames fault =
-    ((frames ≡ []) × (length text < 24) × (fault ≡ Torn 0))
-    ⊎ ((frames ≡ []) × (24 ≤ length text) × BreaksHeader text fault)
+    ((frames ≡ []) × (length text < HEADER_LEN) × (fault ≡ Torn 0))
+    ⊎ ((frames ≡ []) × (HEADER_LEN ≤ length text) × BreaksHeader text fault)
     ⊎ ((spelling : Spelling) × (header rest : List ℕ) × (text ≡ header ++ rest)
-    × IsHeader spelling header × AreRecordsUpTo spelling 24 rest frames fault)
+    × IsHeader spelling header × AreRecordsUpTo spelling HEADER_LEN rest frames fault)

@@ -3,27 +3,28 @@ use Rattle.std.specs.Prelude.{◌≡◌, ◌⊎◌, ℕ, ◌+◌, ◌<◌, ◌�
 use Rattle.pcap_in.specs.Classic.{IsHeader, IsRecord}
 use Rattle.pcap_in.specs.Faulty.{BreaksHeader, BreaksRecord, EndsInRecord, IsTornRecord}
 use Rattle.pcap_in.specs.Reading.{Reading}
-use Rattle.pcap_in.specs.declared.judge.Header.{Header}
-use Rattle.pcap_in.specs.declared.judge.Header.TheVariants as header
-use Rattle.pcap_in.specs.declared.judge.Record.{Record}
-use Rattle.pcap_in.specs.declared.judge.Record.TheVariants as item
+use Rattle.pcap_in.specs.declared.judge.TheConstants.{HEADER_LEN, HEAD_LEN}
+use Rattle.pcap_in.specs.declared.judge.CaptureHeader.{CaptureHeader}
+use Rattle.pcap_in.specs.declared.judge.CaptureHeader.TheVariants as header
+use Rattle.pcap_in.specs.declared.judge.CaptureRecord.{CaptureRecord}
+use Rattle.pcap_in.specs.declared.judge.CaptureRecord.TheVariants as item
 use Rattle.pcap_in.specs.declared.pull.Pull.{Pull}
 use Rattle.pcap_in.specs.declared.pull.Pull.TheVariants as pull
 use Rattle.pcap_in.specs.declared.spelling.Spelling.{Spelling}
 
 -- the header that these bytes begin with, as far as they go
-abbrev pub IsJudgedHeader : List ℕ → Header → Type 0
-IsJudgedHeader rest header.Part = length rest < 24
-IsJudgedHeader rest (header.Broken fault) = (24 ≤ length rest) × BreaksHeader rest fault
-IsJudgedHeader rest (header.Whole spelling) = (24 ≤ length rest) × IsHeader spelling (take 24 rest)
+abbrev pub IsJudgedHeader : List ℕ → CaptureHeader → Type 0
+IsJudgedHeader rest header.Part = length rest < HEADER_LEN
+IsJudgedHeader rest (header.Broken fault) = (HEADER_LEN ≤ length rest) × BreaksHeader rest fault
+IsJudgedHeader rest (header.Whole spelling) = (HEADER_LEN ≤ length rest) × IsHeader spelling (take HEADER_LEN rest)
 
 -- the record that the bytes at an offset begin with, as far as they go
-abbrev pub IsJudgedRecord : Spelling → ℕ → List ℕ → Record → Type 0
+abbrev pub IsJudgedRecord : Spelling → ℕ → List ℕ → CaptureRecord → Type 0
 IsJudgedRecord spelling at rest item.Part = EndsInRecord spelling rest
-IsJudgedRecord spelling at rest (item.Broken fault) = (16 ≤ length rest) × BreaksRecord spelling at rest fault
+IsJudgedRecord spelling at rest (item.Broken fault) = (HEAD_LEN ≤ length rest) × BreaksRecord spelling at rest fault
 IsJudgedRecord spelling at rest (item.Whole stamp len) =
-    (16 + len ≤ length rest)
-    × IsRecord spelling (take (16 + len) rest) (record { stamp = stamp; packet = take len (drop 16 rest) })
+    (HEAD_LEN + len ≤ length rest)
+    × IsRecord spelling (take (HEAD_LEN + len) rest) (record { stamp = stamp; packet = take len (drop HEAD_LEN rest) })
 
 -- what is answered behind an accepted header, from the bytes at an offset on, and what it leaves
 abbrev pub PullsRecord : Spelling → ℕ → List ℕ → Reading → Pull → Reading → Type 0
@@ -35,4 +36,5 @@ PullsRecord spelling at rest old pull.More new = (new ≡ old) × (old.finished 
 PullsRecord spelling at rest old pull.End new = (new ≡ old) × (old.finished ≡ true) × (rest ≡ [])
 PullsRecord spelling at rest old (pull.Bad fault) new =
     (new ≡ old)
-    × (((16 ≤ length rest) × BreaksRecord spelling at rest fault) ⊎ IsTornRecord spelling at rest old.finished fault)
+    × (((HEAD_LEN ≤ length rest) × BreaksRecord spelling at rest fault)
+    ⊎ IsTornRecord spelling at rest old.finished fault)

@@ -3,6 +3,7 @@ use Rattle.std.specs.Prelude.{◌≡◌, ◌⊎◌, ℕ, ◌+◌, ◌<◌, ◌�
 use Rattle.onvm_base.specs.declared.frame.Frame.{Frame}
 use Rattle.pcap_in.specs.Classic.{IsHeader, IsRecord, AreRecords}
 use Rattle.pcap_in.specs.Faulty.{BreaksHeader, BreaksRecord, EndsInRecord, IsTornRecord}
+use Rattle.pcap_in.specs.declared.judge.TheConstants.{HEADER_LEN, HEAD_LEN}
 use Rattle.pcap_in.specs.declared.pull.PcapFault.{PcapFault}
 use Rattle.pcap_in.specs.declared.pull.PcapFault.TheVariants.{Magic, Version, Link, Torn, TooLong, Fraction}
 use Rattle.pcap_in.specs.declared.pull.Pull.{Pull}
@@ -18,15 +19,15 @@ pub record Reading : Type 0 where
   pub finished : Bool
 
 -- nothing was fed
-abbrev pub unfed : Reading
-unfed = record { spelling = None; place = 0; rest = []; finished = false }
+abbrev pub unfed_reading : Reading
+unfed_reading = record { spelling = None; place = 0; rest = []; finished = false }
 
 -- what stands at the reader's place behind an accepted header: a record of its spelling or nothing, from this offset on
 abbrev pub AtRecord : Reading → (Spelling → ℕ → List ℕ → Type 0) → Type 0
 AtRecord reading P =
     ((reading.spelling ≡ None)
     × (spelling : Spelling) × (header rest : List ℕ) × (reading.rest ≡ header ++ rest)
-    × IsHeader spelling header × P spelling (reading.place + 24) rest)
+    × IsHeader spelling header × P spelling (reading.place + HEADER_LEN) rest)
     ⊎ ((spelling : Spelling) × (reading.spelling ≡ Some spelling) × P spelling reading.place reading.rest)
 
 -- what stands at the reader's place are the records of these frames, to their end
@@ -35,7 +36,7 @@ AreLeft reading frames = AtRecord reading (λ spelling at rest. AreRecords spell
 
 -- the bytes end inside the header
 abbrev pub EndsInHeader : Reading → Type 0
-EndsInHeader reading = (reading.spelling ≡ None) × (length reading.rest < 24)
+EndsInHeader reading = (reading.spelling ≡ None) × (length reading.rest < HEADER_LEN)
 
 -- no more bytes come, and they end inside the header
 abbrev pub IsTornHeader : Reading → PcapFault → Type 0
@@ -49,8 +50,8 @@ IsTornHeader reading (Fraction at) = ⊥
 -- the item at the reader's place breaks its rule, or no more bytes come and they end inside it
 abbrev pub IsFaulty : Reading → PcapFault → Type 0
 IsFaulty reading fault =
-    ((reading.spelling ≡ None) × (24 ≤ length reading.rest) × BreaksHeader reading.rest fault)
-    ⊎ AtRecord reading (λ spelling at rest. (16 ≤ length rest) × BreaksRecord spelling at rest fault)
+    ((reading.spelling ≡ None) × (HEADER_LEN ≤ length reading.rest) × BreaksHeader reading.rest fault)
+    ⊎ AtRecord reading (λ spelling at rest. (HEAD_LEN ≤ length rest) × BreaksRecord spelling at rest fault)
     ⊎ IsTornHeader reading fault
     ⊎ AtRecord reading (λ spelling at rest. IsTornRecord spelling at rest reading.finished fault)
 

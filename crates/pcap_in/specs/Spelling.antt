@@ -3,7 +3,7 @@ use Rattle.std.specs.Prelude.{ℕ, ◌*◌, List, [], ◌∷◌, drop}
 use Rattle.byteorder.specs.Endian.{little_number, big_number}
 use Rattle.pcap_in.specs.declared.spelling.Endian.{Endian}
 use Rattle.pcap_in.specs.declared.spelling.Endian.TheVariants.{Little, Big}
-use Rattle.pcap_in.specs.declared.spelling.Head.{Head}
+use Rattle.pcap_in.specs.declared.spelling.RecordHead.{RecordHead}
 use Rattle.pcap_in.specs.declared.spelling.Unit.{Unit}
 use Rattle.pcap_in.specs.declared.spelling.Unit.TheVariants.{Micros, Nanos}
 
@@ -20,7 +20,7 @@ number Little count at bytes = little_number count (drop at bytes)
 number Big count at bytes = big_number count (drop at bytes)
 
 -- the numbers that a record begins with
-abbrev pub head_of : Endian → List ℕ → Head
+abbrev pub head_of : Endian → List ℕ → RecordHead
 head_of endian bytes = record {
   seconds = number endian 4 0 bytes;
   fraction = number endian 4 4 bytes;

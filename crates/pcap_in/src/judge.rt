@@ -13,66 +13,66 @@ pub const HEADER_LEN: usize = 24;
 pub const HEAD_LEN: usize = 16;
 
 /// A header, as far as its bytes go.
-pub enum Header {
+pub enum CaptureHeader {
     Part,
     Broken(PcapFault),
     Whole(Spelling),
 }
 
 /// A record, as far as its bytes go.
-pub enum Record {
+pub enum CaptureRecord {
     Part,
     Broken(PcapFault),
     Whole { stamp: Stamp, len: usize },
 }
 
 /// Judges the header that the bytes begin with.
-pub fn judge_header(rest: &[u8]) -> Header
+pub fn judge_header(rest: &[u8]) -> CaptureHeader
     ensures { IsJudgedHeader rest.now result }
 {
     if rest.len() < HEADER_LEN {
-        return Header::Part;
+        return CaptureHeader::Part;
     }
     let Some(spelling) = spelling_of(&rest[..4]) else {
-        return Header::Broken(PcapFault::Magic);
+        return CaptureHeader::Broken(PcapFault::Magic);
     };
     let major = u16_at(spelling.endian, rest, 4);
     let minor = u16_at(spelling.endian, rest, 6);
     let link = u32_at(spelling.endian, rest, 20);
     if major != 2 || minor != 4 {
-        Header::Broken(PcapFault::Version)
+        CaptureHeader::Broken(PcapFault::Version)
     } else if link != 1 {
-        Header::Broken(PcapFault::Link)
+        CaptureHeader::Broken(PcapFault::Link)
     } else {
-        Header::Whole(spelling)
+        CaptureHeader::Whole(spelling)
     }
 }
 
 /// Judges the record that the bytes at an offset begin with.
-pub fn judge_record(spelling: Spelling, at: u64, rest: &[u8]) -> Record
+pub fn judge_record(spelling: Spelling, at: u64, rest: &[u8]) -> CaptureRecord
     ensures { IsJudgedRecord spelling at rest.now result }
 {
     if rest.len() < HEAD_LEN {
-        return Record::Part;
+        return CaptureRecord::Part;
     }
     let head = head_at(spelling.endian, rest);
     let len = head.included as usize;
     if len > MAX_FRAME_BYTES {
-        return Record::Broken(PcapFault::TooLong {
+        return CaptureRecord::Broken(PcapFault::TooLong {
             at,
             len: head.included,
         });
     }
     if head.fraction >= spelling.unit.per_second() {
-        return Record::Broken(PcapFault::Fraction { at });
+        return CaptureRecord::Broken(PcapFault::Fraction { at });
     }
     if rest.len() < HEAD_LEN + len {
-        return Record::Part;
+        return CaptureRecord::Part;
     }
     let stamp = Stamp {
         seconds: head.seconds,
         nanos: spelling.unit.in_nanos(head.fraction),
         tail: head.original.saturating_sub(head.included),
     };
-    Record::Whole { stamp, len }
+    CaptureRecord::Whole { stamp, len }
 }

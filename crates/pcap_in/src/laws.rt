@@ -2,11 +2,11 @@
 ghost use Rattle.std.specs.Prelude.{◌≡◌, ◌↔◌, ◌⊎◌, ℕ, Bool, true, List, [], ◌∷◌, ◌++◌, ◌+◌, None, length, map};
 ghost use Rattle.std.specs.List.{All};
 ghost use Rattle.onvm_base.specs.declared.frame.Frame.{Frame};
-ghost use Rattle.pcap_in.specs.Calls.{Call, Lead, fed_by, given_by};
+ghost use Rattle.pcap_in.specs.Calls.{Call, Lead, bytes_fed_by, frames_given_by};
 ghost use Rattle.pcap_in.specs.Classic.{IsCapture};
 ghost use Rattle.pcap_in.specs.Emitted.{emit, IsEmittable, with_cut_tail};
 ghost use Rattle.pcap_in.specs.Faulty.{IsCaptureUpTo};
-ghost use Rattle.pcap_in.specs.Reading.{Reading, Pulls, AreLeft, unfed};
+ghost use Rattle.pcap_in.specs.Reading.{Reading, Pulls, AreLeft, unfed_reading};
 ghost use Rattle.pcap_in.specs.declared.pull.PcapFault.{PcapFault};
 ghost use Rattle.pcap_in.specs.declared.pull.PcapFault.TheVariants.{Torn};
 ghost use Rattle.pcap_in.specs.declared.pull.Pull.{Pull};
@@ -117,35 +117,35 @@ pub fn a_pulled_frame_was_left()
 /// capture would have ended or be torn.
 pub fn pulls_are_of_the_bytes_fed()
     ensures frame { (calls : List Call) (reading next : Reading) (frame : Frame)
-        → Lead calls unfed reading → Pulls reading (pull.Frame frame) next
-        → (used : List ℕ) × (fed_by calls ≡ used ++ next.rest)
-        × IsCapture used (given_by calls ++ frame ∷ []) }
+        → Lead calls unfed_reading reading → Pulls reading (pull.Frame frame) next
+        → (used : List ℕ) × (bytes_fed_by calls ≡ used ++ next.rest)
+        × IsCapture used (frames_given_by calls ++ frame ∷ []) }
     ensures more { (calls : List Call) (reading next : Reading)
-        → Lead calls unfed reading → Pulls reading pull.More next
-        → IsCapture (fed_by calls) (given_by calls)
-        ⊎ ((at : ℕ) × IsCaptureUpTo (fed_by calls) (given_by calls) (Torn at)) }
+        → Lead calls unfed_reading reading → Pulls reading pull.More next
+        → IsCapture (bytes_fed_by calls) (frames_given_by calls)
+        ⊎ ((at : ℕ) × IsCaptureUpTo (bytes_fed_by calls) (frames_given_by calls) (Torn at)) }
     ensures end { (calls : List Call) (reading next : Reading)
-        → Lead calls unfed reading → Pulls reading pull.End next
-        → IsCapture (fed_by calls) (given_by calls) }
+        → Lead calls unfed_reading reading → Pulls reading pull.End next
+        → IsCapture (bytes_fed_by calls) (frames_given_by calls) }
     ensures bad { (calls : List Call) (reading next : Reading) (fault : PcapFault) (more : List ℕ)
-        → Lead calls unfed reading → Pulls reading (pull.Bad fault) next
+        → Lead calls unfed_reading reading → Pulls reading (pull.Bad fault) next
         → (reading.finished ≡ true → more ≡ [])
-        → IsCaptureUpTo (fed_by calls ++ more) (given_by calls) fault }
+        → IsCaptureUpTo (bytes_fed_by calls ++ more) (frames_given_by calls) fault }
 {}
 
 /// Of a capture that was fed, the frames that were not given yet are left.
 pub fn frames_not_given_are_left()
     ensures { (calls : List Call) (reading : Reading) (frames : List Frame)
-        → Lead calls unfed reading → IsCapture (fed_by calls) frames
-        → (others : List Frame) × (frames ≡ given_by calls ++ others) × AreLeft reading others }
+        → Lead calls unfed_reading reading → IsCapture (bytes_fed_by calls) frames
+        → (others : List Frame) × (frames ≡ frames_given_by calls ++ others) × AreLeft reading others }
 {}
 
 /// What is left to a reader depends on the bytes fed and on how many frames were given: not on the
 /// pieces in which they were fed, nor on when frames were pulled.
 pub fn pieces_do_not_matter()
     ensures { (calls others : List Call) (reading other : Reading)
-        → Lead calls unfed reading → Lead others unfed other
-        → fed_by calls ≡ fed_by others → length (given_by calls) ≡ length (given_by others)
+        → Lead calls unfed_reading reading → Lead others unfed_reading other
+        → bytes_fed_by calls ≡ bytes_fed_by others → length (frames_given_by calls) ≡ length (frames_given_by others)
         → reading.finished ≡ other.finished
-        → (given_by calls ≡ given_by others) × (reading ≡ other) }
+        → (frames_given_by calls ≡ frames_given_by others) × (reading ≡ other) }
 {}

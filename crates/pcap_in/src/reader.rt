@@ -1,7 +1,7 @@
 //! A reader of captures, in whatever pieces they come.
 ghost use Rattle.std.specs.Prelude.{◌≡◌, ◌+◌, ◌^◌, ◌<◌, ◌≤◌, ◌++◌, true, false, length, drop, OnOk, OnErr, IfOk};
 
-use crate::judge::{HEAD_LEN, HEADER_LEN, Header, Record, judge_header, judge_record};
+use crate::judge::{HEAD_LEN, HEADER_LEN, CaptureHeader, CaptureRecord, judge_header, judge_record};
 use crate::pull::{PcapFault, Pull};
 use crate::spelling::Spelling;
 use onvm_base::{Frame, NoMemory, Packet};
@@ -40,12 +40,12 @@ impl Model for Reader {
 }
 
 impl Reader {
-    ghost use Rattle.pcap_in.specs.Reading.{Pulls, unfed};
+    ghost use Rattle.pcap_in.specs.Reading.{Pulls, unfed_reading};
     ghost use Rattle.pcap_in.specs.Judged.{PullsRecord};
 
     /// A reader that has been fed nothing. It takes no memory.
     pub fn make(alloc: Global) -> Reader
-        ensures { result ≡ unfed }
+        ensures { result ≡ unfed_reading }
     {
         Reader {
             buffer: Vec::new(alloc),
@@ -97,10 +97,10 @@ impl Reader {
             return self.next_record(alloc, spelling, 0);
         }
         match judge_header(self.rest_behind(0)) {
-            Header::Part if self.finished => Ok(Pull::Bad(PcapFault::Torn { at: self.place })),
-            Header::Part => Ok(Pull::More),
-            Header::Broken(fault) => Ok(Pull::Bad(fault)),
-            Header::Whole(spelling) => self.next_record(alloc, spelling, HEADER_LEN),
+            CaptureHeader::Part if self.finished => Ok(Pull::Bad(PcapFault::Torn { at: self.place })),
+            CaptureHeader::Part => Ok(Pull::More),
+            CaptureHeader::Broken(fault) => Ok(Pull::Bad(fault)),
+            CaptureHeader::Whole(spelling) => self.next_record(alloc, spelling, HEADER_LEN),
         }
     }
 
@@ -129,11 +129,11 @@ impl Reader {
         let at = self.place + skipped as u64;
         let rest = self.rest_behind(skipped);
         match judge_record(spelling, at, rest) {
-            Record::Part if !self.finished => Ok(Pull::More),
-            Record::Part if rest.is_empty() => Ok(Pull::End),
-            Record::Part => Ok(Pull::Bad(PcapFault::Torn { at })),
-            Record::Broken(fault) => Ok(Pull::Bad(fault)),
-            Record::Whole { stamp, len } => {
+            CaptureRecord::Part if !self.finished => Ok(Pull::More),
+            CaptureRecord::Part if rest.is_empty() => Ok(Pull::End),
+            CaptureRecord::Part => Ok(Pull::Bad(PcapFault::Torn { at })),
+            CaptureRecord::Broken(fault) => Ok(Pull::Bad(fault)),
+            CaptureRecord::Whole { stamp, len } => {
                 let packet = Packet::from_slice(alloc, &rest[HEAD_LEN..HEAD_LEN + len])?;
                 self.used += skipped + HEAD_LEN + len;
                 self.spelling = Some(spelling);

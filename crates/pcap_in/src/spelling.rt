@@ -1,6 +1,7 @@
 //! The four spellings of a capture, and the numbers in it.
 ghost use Rattle.std.specs.Prelude.{◌≡◌, ◌≢◌, ◌+◌, ◌^◌, ◌<◌, ◌≤◌, None, IfSome, length, drop};
 ghost use Rattle.pcap_in.specs.Spelling.{head_of, in_nanos, magic_of, number, per_second};
+ghost use Rattle.pcap_in.specs.declared.judge.TheConstants.{HEAD_LEN};
 ghost use Rattle.pcap_in.specs.declared.spelling.Endian.{Endian};
 ghost use Rattle.pcap_in.specs.declared.spelling.Unit.{Unit};
 
@@ -29,7 +30,7 @@ pub struct Spelling {
 
 /// The numbers of a record's head.
 #[derive(Clone, Copy, Debug, PartialEq, Eq)]
-pub struct Head {
+pub struct RecordHead {
     pub seconds: u32,
     pub fraction: u32,
     pub included: u32,
@@ -112,8 +113,8 @@ pub fn u32_at(endian: Endian, bytes: &[u8], at: usize) -> u32
 }
 
 /// The head that the bytes begin with. The byte order is looked at once.
-pub fn head_at(endian: Endian, bytes: &[u8]) -> Head
-    requires { 16 ≤ length bytes.now }
+pub fn head_at(endian: Endian, bytes: &[u8]) -> RecordHead
+    requires { HEAD_LEN ≤ length bytes.now }
     ensures { result ≡ head_of endian bytes.now }
 {
     match endian {
@@ -122,14 +123,14 @@ pub fn head_at(endian: Endian, bytes: &[u8]) -> Head
     }
 }
 
-fn read_head<E: ByteOrder>(bytes: &[u8]) -> Head
-    requires { 16 ≤ length bytes.now }
+fn read_head<E: ByteOrder>(bytes: &[u8]) -> RecordHead
+    requires { HEAD_LEN ≤ length bytes.now }
     ensures seconds { result.seconds ≡ E.number_of 4 bytes.now }
     ensures fraction { result.fraction ≡ E.number_of 4 (drop 4 bytes.now) }
     ensures included { result.included ≡ E.number_of 4 (drop 8 bytes.now) }
     ensures original { result.original ≡ E.number_of 4 (drop 12 bytes.now) }
 {
-    Head {
+    RecordHead {
         seconds: E::read_u32(bytes),
         fraction: E::read_u32(&bytes[4..]),
         included: E::read_u32(&bytes[8..]),

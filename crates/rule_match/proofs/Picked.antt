@@ -1,10 +1,12 @@
 -- What the first chain says of the rules, both ways.
-use Rattle.std.proofs.Common.{◌≡◌, ◌∙◌, sym, ap, true, Some, None, List, [], ◌∷◌, ◌++◌, inl, inr, refl}
+use Rattle.std.proofs.Common.{◌≡◌, ◌∙◌, sym, ap, Bool, true, cond, Option, Some, None, List, [], ◌∷◌, ◌++◌, inl, inr, refl}
 use Rattle.std.proofs.lemmas.Bool.{cases_Bool, cond-true, cond-false}
 use Rattle.std.proofs.lemmas.Option.{none-some, same_Some}
 use Rattle.onvm_base.specs.declared.ids.ChainId.{ChainId}
 use Rattle.onvm_base.specs.declared.ids.PortId.{PortId}
 use Rattle.onvm_base.specs.declared.rules.RulePlan.{RulePlan}
+use Rattle.onvm_packet.specs.FlowKeys.{flow_key_of}
+use Rattle.onvm_packet.proofs.Keys.{do_hold-same}
 use Rattle.onvm_packet.specs.declared.heads.Heads.{Heads}
 use Rattle.rule_match.specs.Rules.{first_chain, FirstHolds, NoneHolds, rule_holds}
 
@@ -41,3 +43,11 @@ module _ (port : PortId) (heads : Heads) where
   first_chain-first rules chain first =
       ap (λ (t : List RulePlan). first_chain t port heads) first.3
       ∙ first_chain-behind first.0 first.1 first.2 first.4 first.5 ∙ ap (λ (c : ChainId). Some c) first.6
+
+module _ (port other : PortId) (heads others : Heads) (same : flow_key_of port heads ≡ flow_key_of other others) where
+  pub first_chain-same : (rules : List RulePlan) → first_chain rules port heads ≡ first_chain rules other others
+  first_chain-same [] = refl
+  first_chain-same (rule ∷ rules) =
+      ap (λ (holds : Bool). cond holds (Some rule.chain) (first_chain rules port heads))
+      (do_hold-same rule.tests port other heads others same)
+      ∙ ap (λ (rest : Option ChainId). cond (rule_holds other others rule) (Some rule.chain) rest) (first_chain-same rules)
