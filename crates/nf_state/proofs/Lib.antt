@@ -1,3 +1,5 @@
 pub mod Fair
+pub mod OneTranslation
 pub mod Places
+pub mod Staying
 pub mod Translated

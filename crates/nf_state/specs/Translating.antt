@@ -5,7 +5,7 @@ use Rattle.onvm_base.specs.declared.rules.Prefix.{Prefix}
 use Rattle.onvm_base.specs.declared.outcome.Verdict.{Verdict}
 use Rattle.onvm_base.specs.declared.outcome.Verdict.TheVariants.{Drop, Next}
 use Rattle.onvm_packet.specs.Holding.{covers_ipv4}
-use Rattle.nf_state.specs.Mappings.{IsFree, IsUnmapped, Assigns, Mapping, Maps}
+use Rattle.nf_state.specs.Mappings.{AreFair, IsFree, IsUnmapped, Assigns, Mapping, Maps}
 use Rattle.nf_state.specs.Rewriting.{rewritten}
 use Rattle.nf_state.specs.Segments.{is_whole, segment_of}
 use Rattle.nf_state.specs.declared.mappings.Endpoint.{Endpoint}
@@ -31,6 +31,16 @@ of_protocol protocol held = if protocol == 6 then held.tcp else held.udp
 abbrev pub with_protocol : ℕ → List Mapping → Held → Held
 with_protocol protocol mappings held =
     if protocol == 6 then record { tcp = mappings; udp = held.udp } else record { tcp = held.tcp; udp = mappings }
+
+-- every mapping that there was is there
+abbrev pub Stay : Held → Held → Type 0
+Stay before after =
+    (protocol : ℕ) (inside : Endpoint) (outside : ℕ) → Maps (of_protocol protocol before) inside outside
+    → Maps (of_protocol protocol after) inside outside
+
+-- of each protocol, an outside port stands for one sender, and a sender has one port
+abbrev pub IsFair : Held → Type 0
+IsFair held = AreFair held.tcp × AreFair held.udp
 
 abbrev pub sender : Segment → Endpoint
 sender segment = record { address = segment.source; port = segment.source_port }

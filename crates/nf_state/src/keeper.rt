@@ -3,6 +3,7 @@ ghost use Rattle.std.specs.Prelude.{◌≡◌, ◌≤◌, ℕ, IfOk, IsOk, IsTru
 ghost use Rattle.onvm_base.specs.declared.function.Kind.TheVariants.{Nat as NatKind};
 ghost use Rattle.onvm_base.specs.declared.rules.Prefix.{Prefix};
 ghost use Rattle.nf_state.specs.Kinds.{ActsByState, Wants, first_state, is_keeping, kind_of, state_of};
+ghost use Rattle.nf_api.specs.Acts.{WantsNoMore};
 ghost use Rattle.nf_api.specs.declared.meta.Meta.{Meta};
 
 use crate::counter::Counter;
@@ -63,6 +64,7 @@ impl Keeper {
         ensures acts { (meta : Meta) → meta.stamp ≡ stamp → IfOk result (λ verdict.
             ActsByState (kind_of self.old) (state_of self.old) packet.old meta verdict packet.new (state_of self.new)) }
         ensures kind { kind_of self.new ≡ kind_of self.old }
+        ensures no_more { WantsNoMore (Wants self.new) (Wants self.old) }
         ensures unchanged { OnErr result (state_of self.new ≡ state_of self.old) }
         ensures packet { OnErr result (packet.new ≡ packet.old) }
         ensures wanting { OnErr result (Wants self.old packet.old) }

@@ -1,0 +1,119 @@
+//! Frames that NAT translates, byte for byte.
+
+use super::frames::{
+    SHORT, TAGGED_FROM_INSIDE, TAGGED_SENT_ON, TCP_ANSWER, TCP_DELIVERED, TCP_FROM_INSIDE,
+    TCP_SENT_ON, UDP_ANSWER, UDP_DELIVERED, UDP_FROM_INSIDE, UDP_SENT_ON, ZERO_FROM_INSIDE,
+    ZERO_SENT_ON, generated,
+};
+use super::{may_be_handed_over, meta};
+use crate::Keeper;
+use nf_api::NetFunction;
+use onvm_base::{Kind, MAX_FRAME_BYTES, NoMemory, Packet, Prefix, Verdict};
+use std::alloc::Global;
+use std::test::Fail;
+
+// 10.0.0.0/8 behind 192.0.2.1, with two ports.
+const NAT: Kind = Kind::Nat {
+    inside: Prefix::V4 {
+        address: 0x0a00_0000,
+        length: 8,
+    },
+    outside: 0xc000_0201,
+    ports: (40_000, 40_001),
+};
+
+fn nat(alloc: Global) -> Result<Keeper, NoMemory> {
+    Keeper::make(alloc, &NAT)
+}
+
+// The verdict for a frame, and the packet that is left.
+fn handled(
+    alloc: Global,
+    nat: &mut Keeper,
+    frame: &[u8],
+) -> Result<(Verdict, Packet), NoMemory>
+    requires { length frame.now ≤ MAX_FRAME_BYTES }
+{
+    let mut packet = Packet::from_slice(alloc, frame)?;
+    let verdict = nat.handle(&mut packet, &meta(0))?;
+    Ok((verdict, packet))
+}
+
+#[test]
+fn a_generated_frame_has_the_lowest_port(rt: HostRuntime) -> Result<(), Fail> {
+    let mut nat = nat(rt.alloc())?;
+    may_be_handed_over(&nat);
+    let (verdict, packet) = handled(rt.alloc(), &mut nat, &generated())?;
+    assert_eq!(rt; verdict, Verdict::Next);
+    let mut left = generated();
+    left[24..26].copy_from_slice(&[0xab, 0x4b]);
+    left[26..30].copy_from_slice(&[192, 0, 2, 1]);
+    left[34..36].copy_from_slice(&[0x9c, 0x40]);
+    assert_eq!(rt; packet.bytes(), &left[..]);
+    Ok(())
+}
+
+#[test]
+fn checksums_are_those_of_another_program(rt: HostRuntime) -> Result<(), Fail> {
+    let mut nat = nat(rt.alloc())?;
+    let (_, packet) = handled(rt.alloc(), &mut nat, &TCP_FROM_INSIDE)?;
+    assert_eq!(rt; packet.bytes(), &TCP_SENT_ON[..]);
+    let (_, packet) = handled(rt.alloc(), &mut nat, &TCP_ANSWER)?;
+    assert_eq!(rt; packet.bytes(), &TCP_DELIVERED[..]);
+    let (_, packet) = handled(rt.alloc(), &mut nat, &UDP_FROM_INSIDE)?;
+    assert_eq!(rt; packet.bytes(), &UDP_SENT_ON[..]);
+    let (_, packet) = handled(rt.alloc(), &mut nat, &UDP_ANSWER)?;
+    assert_eq!(rt; packet.bytes(), &UDP_DELIVERED[..]);
+    let (_, packet) = handled(rt.alloc(), &mut nat, &TAGGED_FROM_INSIDE)?;
+    assert_eq!(rt; packet.bytes(), &TAGGED_SENT_ON[..]);
+    let (_, packet) = handled(rt.alloc(), &mut nat, &ZERO_FROM_INSIDE)?;
+    assert_eq!(rt; packet.bytes(), &ZERO_SENT_ON[..]);
+    Ok(())
+}
+
+#[test]
+fn senders_get_the_ports_in_order_until_none_is_left(rt: HostRuntime) -> Result<(), Fail> {
+    let mut nat = nat(rt.alloc())?;
+    let mut frame = generated();
+    for (sender, port) in [(1, 0x40), (2, 0x41), (1, 0x40)] {
+        frame[29] = sender;
+        let (verdict, packet) = handled(rt.alloc(), &mut nat, &frame)?;
+        assert_eq!(rt; verdict, Verdict::Next);
+        assert_eq!(rt; packet.bytes().get(34..36), Some(&[0x9c, port][..]));
+    }
+    frame[29] = 3;
+    let (verdict, packet) = handled(rt.alloc(), &mut nat, &frame)?;
+    assert_eq!(rt; verdict, Verdict::Drop);
+    assert_eq!(rt; packet.bytes(), &frame[..]);
+    let (verdict, packet) = handled(rt.alloc(), &mut nat, &TCP_FROM_INSIDE)?;
+    assert_eq!(rt; verdict, Verdict::Next);
+    assert_eq!(rt; packet.bytes(), &TCP_SENT_ON[..]);
+    Ok(())
+}
+
+#[test]
+fn a_frame_that_is_cut_before_its_checksum_is_dropped(rt: HostRuntime) -> Result<(), Fail> {
+    let mut nat = nat(rt.alloc())?;
+    for (frame, len, verdict) in [
+        (&TCP_FROM_INSIDE[..], 51, Verdict::Drop),
+        (&TCP_FROM_INSIDE[..], 52, Verdict::Next),
+        (&UDP_FROM_INSIDE[..], 41, Verdict::Drop),
+        (&UDP_FROM_INSIDE[..], 42, Verdict::Next),
+    ] {
+        let (given, packet) = handled(rt.alloc(), &mut nat, &frame[..len])?;
+        assert_eq!(rt; given, verdict);
+        assert_eq!(rt; packet.bytes() == &frame[..len], verdict == Verdict::Drop);
+    }
+    Ok(())
+}
+
+#[test]
+fn what_concerns_no_mapping_goes_on_as_it_came(rt: HostRuntime) -> Result<(), Fail> {
+    let mut nat = nat(rt.alloc())?;
+    for frame in [&SHORT[..], &TCP_ANSWER[..], &UDP_DELIVERED[..]] {
+        let (verdict, packet) = handled(rt.alloc(), &mut nat, frame)?;
+        assert_eq!(rt; verdict, Verdict::Next);
+        assert_eq!(rt; packet.bytes(), frame);
+    }
+    Ok(())
+}
