@@ -62,7 +62,7 @@ module _ (parameters : Parameters) (bytes left : List ℕ) (verdict : Verdict) (
   same_entering segment (inr free) = free.1.same
 
   -- the mappings are the same, or a packet from inside left
-  abbrev SameOrLeft : Type 0
+  abbrev SameOrLeft : Type 1
   SameOrLeft =
       (P : Type 0) → (after ≡ before → P)
       → ((segment : Segment) → Leaves parameters segment bytes before verdict left after → P) → P
