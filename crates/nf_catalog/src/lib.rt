@@ -7,6 +7,8 @@
 
 mod assembly;
 mod guests;
+#[cfg(test)]
+mod tests;
 mod unit;
 
 pub use assembly::{Units, units};

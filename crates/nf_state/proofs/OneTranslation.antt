@@ -5,7 +5,7 @@ use Rattle.std.proofs.lemmas.Bool.{cases_lt}
 use Rattle.onvm_base.specs.declared.outcome.Verdict.{Verdict}
 use Rattle.onvm_packet.specs.Holding.{covers_ipv4}
 use Rattle.nf_state.specs.Mappings.{AreFair, Assigns, IsLowestFree, Mapping, Maps, mapping}
-use Rattle.nf_state.specs.Rewriting.{rewritten}
+use Rattle.nf_state.specs.Rewriting.{with_target}
 use Rattle.nf_state.specs.Segments.{is_whole, segment_of}
 use Rattle.nf_state.specs.Translating.{ComesIn, Enters, GoesOut, Held, IsFair, Leaves, Parameters, Stays, Translates, TranslatesSegment, TranslatesWhole, of_protocol, sender, with_protocol}
 use Rattle.nf_state.specs.declared.mappings.Endpoint.{Endpoint}
@@ -95,7 +95,7 @@ module _ (parameters : Parameters) (bytes x y : List ℕ) (v w : Verdict) (befor
       segment.target_port first.there second.there in (
         first.verdict_is ∙ sym second.verdict_is,
         first.bytes_are
-            ∙ ap (λ (e : Endpoint). rewritten segment (segment.at + 16) (segment.behind + 2) e.address e.port bytes) to
+            ∙ ap (λ (e : Endpoint). with_target segment e.address e.port bytes) to
             ∙ sym second.bytes_are,
         first.same ∙ sym second.same,
       )

@@ -51,6 +51,14 @@ rewritten segment address_at port_at address port bytes =
     port_word segment port_at port
     (address_word segment (address_at + 2) (address % 65536) (address_word segment address_at (address / 65536) bytes))
 
+-- RFC 791, 3.1: the source's address is bytes 12 to 15 of an IPv4 header, the target's 16 to 19. The ports of TCP and
+-- UDP are bytes 0 and 1, and 2 and 3
+abbrev pub with_source : Segment → (address port : ℕ) → List ℕ → List ℕ
+with_source segment address port bytes = rewritten segment (segment.at + 12) segment.behind address port bytes
+
+abbrev pub with_target : Segment → (address port : ℕ) → List ℕ → List ℕ
+with_target segment address port bytes = rewritten segment (segment.at + 16) (segment.behind + 2) address port bytes
+
 -- the heads are whole in the packet
 pub record IsIn (segment : Segment) (bytes : List ℕ) : Type 0 where
   pub head : segment.at + 20 ≤ segment.behind

@@ -6,7 +6,7 @@ use Rattle.onvm_base.specs.declared.outcome.Verdict.{Verdict}
 use Rattle.onvm_base.specs.declared.outcome.Verdict.TheVariants.{Drop, Next}
 use Rattle.onvm_packet.specs.Holding.{covers_ipv4}
 use Rattle.nf_state.specs.Mappings.{AreFair, IsFree, IsUnmapped, Assigns, Mapping, Maps}
-use Rattle.nf_state.specs.Rewriting.{rewritten}
+use Rattle.nf_state.specs.Rewriting.{with_source, with_target}
 use Rattle.nf_state.specs.Segments.{is_whole, segment_of}
 use Rattle.nf_state.specs.declared.mappings.Endpoint.{Endpoint}
 use Rattle.nf_state.specs.declared.segment.Segment.{Segment}
@@ -56,7 +56,7 @@ pub record Stays (given : Verdict) (bytes : List ℕ) (before : Held) (verdict :
 abbrev pub GoesOut : ℕ → Segment → Option ℕ → List ℕ → Verdict → List ℕ → Type 0
 GoesOut address segment None bytes verdict left = (verdict ≡ Drop) × (left ≡ bytes)
 GoesOut address segment (Some port) bytes verdict left =
-    (verdict ≡ Next) × (left ≡ rewritten segment (segment.at + 12) segment.behind address port bytes)
+    (verdict ≡ Next) × (left ≡ with_source segment address port bytes)
 
 -- a packet from inside goes on from the outside address, by the port that is assigned to its sender
 pub record Leaves (parameters : Parameters) (segment : Segment) (bytes : List ℕ) (before : Held) (verdict : Verdict)
@@ -73,7 +73,7 @@ pub record ComesIn (segment : Segment) (bytes : List ℕ) (before : Held) (verdi
   pub to : Endpoint
   pub there : Maps (of_protocol segment.protocol before) to segment.target_port
   pub verdict_is : verdict ≡ Next
-  pub bytes_are : left ≡ rewritten segment (segment.at + 16) (segment.behind + 2) to.address to.port bytes
+  pub bytes_are : left ≡ with_target segment to.address to.port bytes
   pub same : after ≡ before
 
 -- a packet to the outside address goes on to the sender that has its port, if there is one

@@ -1,7 +1,7 @@
 //! New addresses and ports, with the checksums that cover them.
 ghost use Rattle.std.specs.Prelude.{◌≡◌, ◌≤◌, ◌+◌, ◌<◌, ◌^◌, length};
 ghost use Rattle.onvm_packet.specs.Bytes.{number};
-ghost use Rattle.nf_state.specs.Rewriting.{address_word, port_word, rewritten, updated_segment_checksum, with_head_sum, with_segment_sum, with_word, IsIn};
+ghost use Rattle.nf_state.specs.Rewriting.{address_word, port_word, rewritten, updated_segment_checksum, with_head_sum, with_segment_sum, with_source, with_target, with_word, IsIn};
 
 use crate::segment::{Segment, TCP, UDP};
 use byteorder::{BigEndian, ByteOrder};
@@ -11,7 +11,7 @@ use onvm_packet::swap_word;
 /// Writes a new source.
 pub fn set_source(packet: &mut Packet, segment: &Segment, address: u32, port: u16)
     requires { IsIn segment.now packet.old }
-    ensures { packet.new ≡ rewritten segment.now (segment.now.at + 12) segment.now.behind address port packet.old }
+    ensures { packet.new ≡ with_source segment.now address port packet.old }
 {
     rewrite(
         packet,
@@ -26,7 +26,7 @@ pub fn set_source(packet: &mut Packet, segment: &Segment, address: u32, port: u1
 /// Writes a new target.
 pub fn set_target(packet: &mut Packet, segment: &Segment, address: u32, port: u16)
     requires { IsIn segment.now packet.old }
-    ensures { packet.new ≡ rewritten segment.now (segment.now.at + 16) (segment.now.behind + 2) address port packet.old }
+    ensures { packet.new ≡ with_target segment.now address port packet.old }
 {
     prove!(packet.bytes().len() <= MAX_FRAME_BYTES);
     rewrite(

@@ -1,4 +1,6 @@
 //! Frames that NAT translates, byte for byte.
+ghost use Rattle.std.specs.Prelude.{◌≤◌, length};
+ghost use Rattle.onvm_base.specs.declared.limits.TheConstants.{MAX_FRAME_BYTES};
 
 use super::frames::{
     SHORT, TAGGED_FROM_INSIDE, TAGGED_SENT_ON, TCP_ANSWER, TCP_DELIVERED, TCP_FROM_INSIDE,
@@ -94,26 +96,30 @@ fn senders_get_the_ports_in_order_until_none_is_left(rt: HostRuntime) -> Result<
 #[test]
 fn a_frame_that_is_cut_before_its_checksum_is_dropped(rt: HostRuntime) -> Result<(), Fail> {
     let mut nat = nat(rt.alloc())?;
-    for (frame, len, verdict) in [
-        (&TCP_FROM_INSIDE[..], 51, Verdict::Drop),
-        (&TCP_FROM_INSIDE[..], 52, Verdict::Next),
-        (&UDP_FROM_INSIDE[..], 41, Verdict::Drop),
-        (&UDP_FROM_INSIDE[..], 42, Verdict::Next),
-    ] {
-        let (given, packet) = handled(rt.alloc(), &mut nat, &frame[..len])?;
-        assert_eq!(rt; given, verdict);
-        assert_eq!(rt; packet.bytes() == &frame[..len], verdict == Verdict::Drop);
-    }
+    let (verdict, packet) = handled(rt.alloc(), &mut nat, &TCP_FROM_INSIDE[..51])?;
+    assert_eq!(rt; verdict, Verdict::Drop);
+    assert_eq!(rt; packet.bytes(), &TCP_FROM_INSIDE[..51]);
+    let (verdict, _) = handled(rt.alloc(), &mut nat, &TCP_FROM_INSIDE[..52])?;
+    assert_eq!(rt; verdict, Verdict::Next);
+    let (verdict, packet) = handled(rt.alloc(), &mut nat, &UDP_FROM_INSIDE[..41])?;
+    assert_eq!(rt; verdict, Verdict::Drop);
+    assert_eq!(rt; packet.bytes(), &UDP_FROM_INSIDE[..41]);
+    let (verdict, _) = handled(rt.alloc(), &mut nat, &UDP_FROM_INSIDE[..42])?;
+    assert_eq!(rt; verdict, Verdict::Next);
     Ok(())
 }
 
 #[test]
 fn what_concerns_no_mapping_goes_on_as_it_came(rt: HostRuntime) -> Result<(), Fail> {
     let mut nat = nat(rt.alloc())?;
-    for frame in [&SHORT[..], &TCP_ANSWER[..], &UDP_DELIVERED[..]] {
-        let (verdict, packet) = handled(rt.alloc(), &mut nat, frame)?;
-        assert_eq!(rt; verdict, Verdict::Next);
-        assert_eq!(rt; packet.bytes(), frame);
-    }
+    let (verdict, packet) = handled(rt.alloc(), &mut nat, &SHORT)?;
+    assert_eq!(rt; verdict, Verdict::Next);
+    assert_eq!(rt; packet.bytes(), &SHORT[..]);
+    let (verdict, packet) = handled(rt.alloc(), &mut nat, &TCP_ANSWER)?;
+    assert_eq!(rt; verdict, Verdict::Next);
+    assert_eq!(rt; packet.bytes(), &TCP_ANSWER[..]);
+    let (verdict, packet) = handled(rt.alloc(), &mut nat, &UDP_DELIVERED)?;
+    assert_eq!(rt; verdict, Verdict::Next);
+    assert_eq!(rt; packet.bytes(), &UDP_DELIVERED[..]);
     Ok(())
 }
