@@ -1,32 +1,22 @@
 -- What a status tells, by cases, and that no two statuses tell the same.
-use Rattle.std.proofs.Common.{◌≡◌, ◌≢◌, ◌∙◌, sym, ap, subst, refl, inl, inr, ◌⊎◌, ℕ, List, [], ◌∷◌, ◌++◌, length, Option, Some, arith}
-use Rattle.std.proofs.lemmas.List.{length-append}
-use Rattle.std.proofs.lemmas.List.Sums.{sum_by-append}
+use Rattle.std.proofs.Common.{◌≡◌, ◌≢◌, ◌∙◌, sym, ap, subst, refl, inl, inr, ◌⊎◌, ℕ, ◌<◌, List, [], ◌∷◌, Option, Some}
 use Rattle.onvm_base.specs.declared.frame.Frame.{Frame}
 use Rattle.onvm_base.specs.declared.status.Status.{Status}
 use Rattle.onvm_base.specs.declared.status.Status.TheVariants.{Done, Words, Plan, Capture, Read, Write, Memory}
-use Rattle.onvm_host.specs.Deeds.{Deed}
+use Rattle.onvm_host.specs.Deeds.{Deed, faults_of}
 use Rattle.onvm_host.specs.Files.{Entries, file_of}
 use Rattle.pcap_in.specs.Classic.{IsCapture}
 use Rattle.pcap_in.proofs.Faults.{no_fault, capture_first}
-use Rattle.onvm_top.specs.Answers.{FailsToWrite, HasBadCapture, HasOtherChain, IsBadCapture, IsChain, IsGoodCapture, IsNoCommand, IsOtherChain, IsUnlessStopped}
+use Rattle.onvm_top.specs.Answers.{IsAnswer, IsBadCapture, IsChain, IsGoodCapture, IsNoCommand, IsOtherChain, IsUnlessStopped}
 use Rattle.onvm_top.specs.Command.{Command, IsCommand}
 use Rattle.onvm_top.specs.Fault.{status_of}
-use Rattle.onvm_top.specs.Limits.{bytes_of, IsWithinLimits, PassesLimit}
-use Rattle.onvm_top.specs.Replay.{IsDone, IsReplayed}
-use Rattle.onvm_top.specs.Stops.{IsStopped}
-use Rattle.onvm_top.specs.Story.{CannotReadChain}
+use Rattle.ingress.specs.Limits.{PassesLimit}
+use Rattle.ingress.proofs.Captured.{within_first}
+use Rattle.onvm_top.specs.Replay.{IsReplayed}
+use Rattle.onvm_top.specs.Stops.{CannotReadSound, IsStopped}
+use Rattle.onvm_top.specs.Story.{Adds, CannotReadChain, IsStory, ReadsChain, Then}
 use Rattle.onvm_top.specs.declared.fault.Fault.{Fault}
-
--- what a status tells of words and files
-abbrev pub IsAnswer : List (List ℕ) → Option Entries → Option Entries → Status → Type 0
-IsAnswer words told told_now Done = IsDone words told told_now
-IsAnswer words told told_now Words = IsNoCommand words × (told_now ≡ told)
-IsAnswer words told told_now Plan = HasOtherChain words told × (told_now ≡ told)
-IsAnswer words told told_now Capture = HasBadCapture words told × (told_now ≡ told)
-IsAnswer words told told_now Read = ((command : Command) × IsCommand words command) × (told_now ≡ told)
-IsAnswer words told told_now Write = FailsToWrite words told told_now
-IsAnswer words told told_now Memory = ((command : Command) × IsCommand words command) × (told_now ≡ told)
+use Rattle.onvm_top.proofs.Story.{faults_of-Adds, faults_of-Read, faults_of-Write}
 
 -- what a fault that stops a run tells is what its status tells
 pub IsAnswer-stopped : (words : List (List ℕ)) (told told_now : Option Entries) (deeds : List Deed) (fault : Fault)
@@ -119,17 +109,6 @@ chain_or_other words a b files is other chain (bytes, file, differs) =
     let there = same ∙ chain in
     differs (cc)
 
--- the first frames of some that a port takes are taken
-pub within_first : (frames first rest : List Frame) → frames ≡ first ++ rest → IsWithinLimits frames
-    → IsWithinLimits first
-within_first frames first rest split within =
-    let count = ap (length {A = Frame}) split ∙ length-append first rest in
-    let bytes = ap bytes_of split ∙ sum_by-append (λ (frame : Frame). length frame.packet) first rest in
-    record {
-      few = omega (arith, count, within.few);
-      small = omega (arith, bytes, within.small);
-    }
-
 -- a text is not the capture of frames that a port takes and a bad one
 good_or_bad : (name : List ℕ) (files : Entries) (frames : List Frame)
     → IsGoodCapture name files frames → IsBadCapture name files
@@ -221,6 +200,19 @@ complete words told told_now Write tells command is files told_is chain frames g
     absurd (unwritten refl)
 complete words told told_now Memory tells command is files told_is chain frames good unread unwritten = inr refl
 
+-- and a run without a fault among its calls told neither Read nor Write
+pub complete_calmly : (words : List (List ℕ)) (told told_now : Option Entries) (answer : Status)
+    (before now : List Deed) → IsAnswer words told told_now answer → Adds before now (IsStory words answer)
+    → ¬ (faults_of before < faults_of now) → (command : Command) → IsCommand words command
+    → (files : Entries) → told ≡ Some files → IsChain command.chain files
+    → (frames : List Frame) → IsGoodCapture command.capture files frames
+    → (answer ≡ Done) ⊎ (answer ≡ Memory)
+complete_calmly words told told_now answer before now tells story calm command is files told_is chain frames good =
+    let Story : Status → Type 0 = λ s. Adds before now (IsStory words s) in
+    complete words told told_now answer tells command is files told_is chain frames good
+    (λ read. calm (faults_of-Adds before now (IsStory words Read) (faults_of-Read words) (subst Story read story)))
+    (λ write. calm (faults_of-Adds before now (IsStory words Write) (faults_of-Write words) (subst Story write story)))
+
 -- where the chain file is another and Read is told, the chain file could not be read
 pub other_chain_Read : (words : List (List ℕ)) (told told_now : Option Entries) (deeds : List Deed) (fault : Fault)
     → IsStopped words told told_now deeds fault → status_of fault ≡ Read → (command : Command) → IsCommand words command
@@ -243,6 +235,59 @@ other_chain_Read words told told_now deeds fault
 other_chain_Read words told told_now deeds fault
     (inr (inr (inr (first, first_is, chain, frames, within, good, calls)))) read command is files told_is other =
     absurd (chain_or_other words first command files first_is is (chain files told_is) other)
+
+-- where Read is told, an input could not be read, and of the capture no fault and no limit was behind it
+pub unread : (words : List (List ℕ)) (told told_now : Option Entries) (deeds : List Deed) (fault : Fault)
+    → IsStopped words told told_now deeds fault → status_of fault ≡ Read → (command : Command) → IsCommand words command
+    → (files : Entries) → told ≡ Some files
+    → CannotReadChain command.chain deeds
+    ⊎ Then (ReadsChain command.chain) (λ calls. CannotReadSound command.capture calls files) deeds
+unread words told told_now deeds fault (inl at) read command is files told_is =
+    let clash : Words ≡ Read = sym (ap status_of at.0) ∙ read in cc
+unread words told told_now deeds fault (inr (inl (first, first_is, same, inl plan))) read command is files told_is =
+    let clash : Plan ≡ Read = sym (ap status_of plan.0) ∙ read in cc
+unread words told told_now deeds fault
+    (inr (inl (first, first_is, same, inr (inl failed)))) read command is files told_is =
+    let P : List ℕ → Type 0 = λ n. CannotReadChain n deeds in
+    inl (subst P (same_chain words first command first_is is) failed.1)
+unread words told told_now deeds fault
+    (inr (inl (first, first_is, same, inr (inr memory)))) read command is files told_is =
+    let clash : Memory ≡ Read = sym (ap status_of memory.0) ∙ read in cc
+unread words told told_now deeds fault
+    (inr (inr (inl (first, first_is, same, chain, (calls, more, split, reads, inl broken))))) read command is files told_is =
+    let clash : Capture ≡ Read = sym (ap status_of broken.1) ∙ read in cc
+unread words told told_now deeds fault
+    (inr (inr (inl (first, first_is, same, chain, (calls, more, split, reads, inr (inl large))))))
+    read command is files told_is =
+    let clash : Capture ≡ Read = sym (ap status_of large.0) ∙ read in cc
+unread words told told_now deeds fault
+    (inr (inr (inl (first, first_is, same, chain, (calls, more, split, reads, inr (inr (inl failed)))))))
+    read command is files told_is =
+    let P : List ℕ → Type 0 = λ n. ReadsChain n calls in
+    let Q : List ℕ → Type 0 = λ n. CannotReadSound n more files in
+    inr (
+      calls,
+      more,
+      split,
+      subst P (same_chain words first command first_is is) reads,
+      subst Q (same_capture words first command first_is is) (failed.2 files told_is),
+    )
+unread words told told_now deeds fault
+    (inr (inr (inl (first, first_is, same, chain, (calls, more, split, reads, inr (inr (inr memory)))))))
+    read command is files told_is =
+    let clash : Memory ≡ Read = sym (ap status_of memory.0) ∙ read in cc
+unread words told told_now deeds fault
+    (inr (inr (inr (first, first_is, chain, frames, within, good, (calls, more, split, reads, (next, last, cut, taken, inl create))))))
+    read command is files told_is =
+    let clash : Write ≡ Read = sym (ap status_of create.0) ∙ read in cc
+unread words told told_now deeds fault
+    (inr (inr (inr (first, first_is, chain, frames, within, good, (calls, more, split, reads, (next, last, cut, taken, inr (inl write)))))))
+    read command is files told_is =
+    let clash : Write ≡ Read = sym (ap status_of write.0) ∙ read in cc
+unread words told told_now deeds fault
+    (inr (inr (inr (first, first_is, chain, frames, within, good, (calls, more, split, reads, (next, last, cut, taken, inr (inr memory)))))))
+    read command is files told_is =
+    let clash : Memory ≡ Read = sym (ap status_of memory.0) ∙ read in cc
 
 -- but where it was done or writing failed, no file changed
 pub none_made : (words : List (List ℕ)) (told told_now : Option Entries) (answer : Status)
