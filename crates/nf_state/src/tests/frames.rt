@@ -1,21 +1,28 @@
-//! Frames to test with. All but the first two were made by a program that computes each checksum over
+//! Frames to test with. All but the first three were made by a program that computes each checksum over
 //! all the bytes that it covers (RFC 1071), before and behind the translation.
 
 /// Sixteen bytes with no network head.
 pub const SHORT: [u8; 16] = [2, 0, 0, 0, 0, 1, 2, 0, 0, 0, 0, 2, 0x88, 0xb5, 1, 2];
 
-// The heads of the first frame that the generator makes of seed 0: UDP over IPv4 without a UDP
-// checksum, from 10.0.0.14 port 10014 to 10.1.0.1 port 9.
-const GENERATED_HEADS: [u8; 42] = [
+/// The heads of the first frame that the generator makes of seed 0: UDP over IPv4 without a UDP
+/// checksum, from 10.0.0.14 port 10014 to 10.1.0.1 port 9.
+pub const GENERATED: [u8; 42] = [
     2, 0, 0, 0, 0, 1, 2, 0, 0, 0, 0, 2, 8, 0, // Ethernet
     0x45, 0, 3, 0x9e, 0, 1, 0, 0, 0x40, 0x11, 0x63, 0x3f, 10, 0, 0, 14, 10, 1, 0, 1, // IPv4
     0x27, 0x1e, 0, 9, 3, 0x8a, 0, 0, // UDP
 ];
 
-/// That frame, with its payload of 898 bytes.
-pub fn generated() -> [u8; 940] {
+/// The same from 192.0.2.1 port 40000.
+pub const GENERATED_SENT_ON: [u8; 42] = [
+    2, 0, 0, 0, 0, 1, 2, 0, 0, 0, 0, 2, 8, 0, // Ethernet
+    0x45, 0, 3, 0x9e, 0, 1, 0, 0, 0x40, 0x11, 0xab, 0x4b, 192, 0, 2, 1, 10, 1, 0, 1, // IPv4
+    0x9c, 0x40, 0, 9, 3, 0x8a, 0, 0, // UDP
+];
+
+/// These heads, and the payload of 898 bytes behind them.
+pub fn with_payload(heads: &[u8; 42]) -> [u8; 940] {
     let mut bytes = [1; 940];
-    bytes[..42].copy_from_slice(&GENERATED_HEADS);
+    bytes[..42].copy_from_slice(heads);
     bytes
 }
 

@@ -3,9 +3,9 @@ ghost use Rattle.std.specs.Prelude.{◌≤◌, length};
 ghost use Rattle.onvm_base.specs.declared.limits.TheConstants.{MAX_FRAME_BYTES};
 
 use super::frames::{
-    SHORT, TAGGED_FROM_INSIDE, TAGGED_SENT_ON, TCP_ANSWER, TCP_DELIVERED, TCP_FROM_INSIDE,
+    GENERATED, GENERATED_SENT_ON, SHORT, TAGGED_FROM_INSIDE, TAGGED_SENT_ON, TCP_ANSWER, TCP_DELIVERED, TCP_FROM_INSIDE,
     TCP_SENT_ON, UDP_ANSWER, UDP_DELIVERED, UDP_FROM_INSIDE, UDP_SENT_ON, ZERO_FROM_INSIDE,
-    ZERO_SENT_ON, generated,
+    ZERO_SENT_ON, with_payload,
 };
 use super::{may_be_handed_over, meta};
 use crate::Keeper;
@@ -45,13 +45,9 @@ fn handled(
 fn a_generated_frame_has_the_lowest_port(rt: HostRuntime) -> Result<(), Fail> {
     let mut nat = nat(rt.alloc())?;
     may_be_handed_over(&nat);
-    let (verdict, packet) = handled(rt.alloc(), &mut nat, &generated())?;
+    let (verdict, packet) = handled(rt.alloc(), &mut nat, &with_payload(&GENERATED))?;
     assert_eq!(rt; verdict, Verdict::Next);
-    let mut left = generated();
-    left[24..26].copy_from_slice(&[0xab, 0x4b]);
-    left[26..30].copy_from_slice(&[192, 0, 2, 1]);
-    left[34..36].copy_from_slice(&[0x9c, 0x40]);
-    assert_eq!(rt; packet.bytes(), &left[..]);
+    assert_eq!(rt; packet.bytes(), &with_payload(&GENERATED_SENT_ON)[..]);
     Ok(())
 }
 
@@ -76,7 +72,7 @@ fn checksums_are_those_of_another_program(rt: HostRuntime) -> Result<(), Fail> {
 #[test]
 fn senders_get_the_ports_in_order_until_none_is_left(rt: HostRuntime) -> Result<(), Fail> {
     let mut nat = nat(rt.alloc())?;
-    let mut frame = generated();
+    let mut frame = with_payload(&GENERATED);
     for (sender, port) in [(1, 0x40), (2, 0x41), (1, 0x40)] {
         frame[29] = sender;
         let (verdict, packet) = handled(rt.alloc(), &mut nat, &frame)?;
