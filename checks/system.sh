@@ -46,11 +46,17 @@ is_missing() {
 }
 
 large_frames 100 >"$room/capture"
+large_frames 1 >"$room/small"
 
-# 26,214,400 bytes of frames, and then the emitted capture, in 40,000 KiB of memory.
-(ulimit -v 40000 && exec ./onvm "$chain" "$room/out" "$room/capture") >"$room/said"
+# 26,214,400 bytes of frames in 20,000 KiB of memory. The script's own settings of malloc would ask for
+# more at once.
+(ulimit -v 20000 && GLIBC_TUNABLES='' exec ./onvm "$chain" "$room/out" "$room/capture") >"$room/said"
 status=$?
 judge 'want of memory' 7 'fault memory' "$room/said" is_missing "$room/out"
+
+(ulimit -v 20000 && GLIBC_TUNABLES='' exec ./onvm "$chain" "$room/out" "$room/small") >"$room/said"
+status=$?
+judge 'one frame in as much memory' 0 '' "$room/said" cmp -s "$room/small" "$room/out"
 
 # It is emitted as it is, as far as a file may grow: up to 102,400 bytes. Shells count blocks of
 # different sizes.
@@ -62,7 +68,13 @@ judge 'a limit on the size of files' 6 'fault write' "$room/said" is_front "$roo
 # The line of the failed write finds no room behind the output, and must not go over its begin.
 (ulimit -f "$blocks" && exec ./onvm "$chain" /dev/stdout "$room/capture") >"$room/both"
 status=$?
-judge 'OUT and what is said are one file' 6 '' /dev/null is_front "$room/both" "$room/capture" 102400
+judge 'OUT is standard output' 6 '' /dev/null is_front "$room/both" "$room/capture" 102400
+
+# What the program emits and what comes after it, in the order in which they were written.
+(./onvm "$chain" /dev/stdout "$room/small" && echo behind) >"$room/both"
+status=$?
+(cat "$room/small" && echo behind) >"$room/wanted"
+judge 'OUT is standard output, and a command behind it writes there' 0 '' /dev/null cmp -s "$room/wanted" "$room/both"
 
 echo "system: $passed passed, $wrong failed"
 [ "$passed" -gt 0 ] && [ "$wrong" -eq 0 ]

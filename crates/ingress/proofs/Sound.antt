@@ -4,7 +4,7 @@ use Rattle.std.proofs.lemmas.List.{append-nil}
 use Rattle.onvm_base.specs.declared.frame.Frame.{Frame}
 use Rattle.pcap_in.specs.Calls.{HasRead}
 use Rattle.pcap_in.specs.Faulty.{EndsInRecord, IsCaptureUpTo}
-use Rattle.pcap_in.specs.Reading.{Reading, AtRecord, EndsInHeader, IsFaulty, unfed}
+use Rattle.pcap_in.specs.Reading.{Reading, AtRecord, EndsInHeader, IsFaulty, unfed_reading}
 use Rattle.pcap_in.specs.declared.pull.PcapFault.{PcapFault}
 use Rattle.pcap_in.specs.declared.pull.PcapFault.TheVariants.{Torn}
 use Rattle.pcap_in.proofs.Faults.{capture_first, fault_once, no_fault, up_to_first}
@@ -79,8 +79,8 @@ pub sound-WantsMore : (fed : List ℕ) (frames : List Frame) (reading : Reading)
 sound-WantsMore fed frames reading read within wants = ends_early fed frames reading read within wants.2
 
 -- a reader that was fed nothing wants more
-pub WantsMore-unfed : WantsMore unfed
-WantsMore-unfed = (refl, refl, inl (refl, omega arith))
+pub WantsMore-unfed_reading : WantsMore unfed_reading
+WantsMore-unfed_reading = (refl, refl, inl (refl, omega arith))
 
 -- what is sound so far has no fault but that it ends early
 pub only_torn : (front : List ℕ) (frames : List Frame) (fault : PcapFault) → IsSoundSoFar front

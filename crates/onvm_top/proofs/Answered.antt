@@ -7,7 +7,7 @@ use Rattle.onvm_host.specs.Deeds.{Deed, faults_of}
 use Rattle.onvm_host.specs.Files.{Entries, file_of}
 use Rattle.pcap_in.specs.Classic.{IsCapture}
 use Rattle.pcap_in.proofs.Faults.{no_fault, capture_first}
-use Rattle.onvm_top.specs.Answers.{IsAnswer, IsBadCapture, IsChain, IsGoodCapture, IsNoCommand, IsOtherChain, IsUnlessStopped}
+use Rattle.onvm_top.specs.Answers.{IsTrueStatus, IsBadCapture, IsChain, IsGoodCapture, IsNoCommand, IsOtherChain, IsUnlessStopped}
 use Rattle.onvm_top.specs.Command.{Command, IsCommand}
 use Rattle.onvm_top.specs.Fault.{status_of}
 use Rattle.ingress.specs.Limits.{PassesLimit}
@@ -19,38 +19,38 @@ use Rattle.onvm_top.specs.declared.fault.Fault.{Fault}
 use Rattle.onvm_top.proofs.Story.{faults_of-Adds, faults_of-Read, faults_of-Write}
 
 -- what a fault that stops a run tells is what its status tells
-pub IsAnswer-stopped : (words : List (List ℕ)) (told told_now : Option Entries) (deeds : List Deed) (fault : Fault)
-    → IsStopped words told told_now deeds fault → IsAnswer words told told_now (status_of fault)
-IsAnswer-stopped words told told_now deeds fault (inl at) =
-    let P : Fault → Type 0 = λ f. IsAnswer words told told_now (status_of f) in
+pub IsTrueStatus-stopped : (words : List (List ℕ)) (told told_now : Option Entries) (deeds : List Deed) (fault : Fault)
+    → IsStopped words told told_now deeds fault → IsTrueStatus words told told_now (status_of fault)
+IsTrueStatus-stopped words told told_now deeds fault (inl at) =
+    let P : Fault → Type 0 = λ f. IsTrueStatus words told told_now (status_of f) in
     subst P (sym at.0) (at.1, at.2)
-IsAnswer-stopped words told told_now deeds fault (inr (inl (command, is, same, inl plan))) =
-    let P : Fault → Type 0 = λ f. IsAnswer words told told_now (status_of f) in
+IsTrueStatus-stopped words told told_now deeds fault (inr (inl (command, is, same, inl plan))) =
+    let P : Fault → Type 0 = λ f. IsTrueStatus words told told_now (status_of f) in
     subst P (sym plan.0) ((command, is, plan.2), same)
-IsAnswer-stopped words told told_now deeds fault (inr (inl (command, is, same, inr (inl read)))) =
-    let P : Fault → Type 0 = λ f. IsAnswer words told told_now (status_of f) in
+IsTrueStatus-stopped words told told_now deeds fault (inr (inl (command, is, same, inr (inl read)))) =
+    let P : Fault → Type 0 = λ f. IsTrueStatus words told told_now (status_of f) in
     subst P (sym read.0) ((command, is), same)
-IsAnswer-stopped words told told_now deeds fault (inr (inl (command, is, same, inr (inr memory)))) =
-    let P : Fault → Type 0 = λ f. IsAnswer words told told_now (status_of f) in
+IsTrueStatus-stopped words told told_now deeds fault (inr (inl (command, is, same, inr (inr memory)))) =
+    let P : Fault → Type 0 = λ f. IsTrueStatus words told told_now (status_of f) in
     subst P (sym memory.0) ((command, is), same)
-IsAnswer-stopped words told told_now deeds fault
+IsTrueStatus-stopped words told told_now deeds fault
     (inr (inr (inl (command, is, same, chain, (first, rest, split, read, inl broken))))) =
-    let P : Fault → Type 0 = λ f. IsAnswer words told told_now (status_of f) in
+    let P : Fault → Type 0 = λ f. IsTrueStatus words told told_now (status_of f) in
     subst P (sym broken.1)
     ((command, is, λ files told_is. (chain files told_is, inl (broken.0, broken.3 files told_is))), same)
-IsAnswer-stopped words told told_now deeds fault
+IsTrueStatus-stopped words told told_now deeds fault
     (inr (inr (inl (command, is, same, chain, (first, rest, split, read, inr (inl large)))))) =
-    let P : Fault → Type 0 = λ f. IsAnswer words told told_now (status_of f) in
+    let P : Fault → Type 0 = λ f. IsTrueStatus words told told_now (status_of f) in
     subst P (sym large.0) ((command, is, λ files told_is. (chain files told_is, inr (large.2 files told_is))), same)
-IsAnswer-stopped words told told_now deeds fault
+IsTrueStatus-stopped words told told_now deeds fault
     (inr (inr (inl (command, is, same, chain, (first, rest, split, read, inr (inr (inl failed))))))) =
-    let P : Fault → Type 0 = λ f. IsAnswer words told told_now (status_of f) in
+    let P : Fault → Type 0 = λ f. IsTrueStatus words told told_now (status_of f) in
     subst P (sym failed.0) ((command, is), same)
-IsAnswer-stopped words told told_now deeds fault
+IsTrueStatus-stopped words told told_now deeds fault
     (inr (inr (inl (command, is, same, chain, (first, rest, split, read, inr (inr (inr memory))))))) =
-    let P : Fault → Type 0 = λ f. IsAnswer words told told_now (status_of f) in
+    let P : Fault → Type 0 = λ f. IsTrueStatus words told told_now (status_of f) in
     subst P (sym memory.0) ((command, is), same)
-IsAnswer-stopped words told told_now deeds fault
+IsTrueStatus-stopped words told told_now deeds fault
     (inr (inr (inr (
       command,
       is,
@@ -60,10 +60,10 @@ IsAnswer-stopped words told told_now deeds fault
       good,
       (first, rest, split, read, (next, last, cut, taken, inl create)),
     )))) =
-    let P : Fault → Type 0 = λ f. IsAnswer words told told_now (status_of f) in
+    let P : Fault → Type 0 = λ f. IsTrueStatus words told told_now (status_of f) in
     subst P (sym create.0)
     (command, is, frames, λ files told_is. (chain files told_is, good files told_is, inl (create.2 ∙ told_is)))
-IsAnswer-stopped words told told_now deeds fault
+IsTrueStatus-stopped words told told_now deeds fault
     (inr (inr (inr (
       command,
       is,
@@ -73,10 +73,10 @@ IsAnswer-stopped words told told_now deeds fault
       good,
       (first, rest, split, read, (next, last, cut, taken, inr (inl write))),
     )))) =
-    let P : Fault → Type 0 = λ f. IsAnswer words told told_now (status_of f) in
+    let P : Fault → Type 0 = λ f. IsTrueStatus words told told_now (status_of f) in
     subst P (sym write.0)
     (command, is, frames, λ files told_is. (chain files told_is, good files told_is, inr (write.2 files told_is)))
-IsAnswer-stopped words told told_now deeds fault
+IsTrueStatus-stopped words told told_now deeds fault
     (inr (inr (inr (
       command,
       is,
@@ -86,7 +86,7 @@ IsAnswer-stopped words told told_now deeds fault
       good,
       (first, rest, split, read, (next, last, cut, taken, inr (inr memory))),
     )))) =
-    let P : Fault → Type 0 = λ f. IsAnswer words told told_now (status_of f) in
+    let P : Fault → Type 0 = λ f. IsTrueStatus words told told_now (status_of f) in
     subst P (sym memory.0) ((command, is), memory.2)
 
 -- words are one command
@@ -139,7 +139,7 @@ other_capture words a b files frames is other good bad =
 
 -- words that are no command are told
 pub no_command : (words : List (List ℕ)) (told told_now : Option Entries) (answer : Status)
-    → IsAnswer words told told_now answer → IsNoCommand words → answer ≡ Words
+    → IsTrueStatus words told told_now answer → IsNoCommand words → answer ≡ Words
 no_command words told told_now Done tells none = absurd (none tells.0 tells.1)
 no_command words told told_now Words tells none = refl
 no_command words told told_now Plan tells none = absurd (none tells.0.0 tells.0.1)
@@ -150,7 +150,7 @@ no_command words told told_now Memory tells none = absurd (none tells.0.0 tells.
 
 -- another chain file is told
 pub other_chain : (words : List (List ℕ)) (told told_now : Option Entries) (answer : Status)
-    → IsAnswer words told told_now answer → (command : Command) → IsCommand words command
+    → IsTrueStatus words told told_now answer → (command : Command) → IsCommand words command
     → (files : Entries) → told ≡ Some files → IsOtherChain command.chain files → IsUnlessStopped Plan answer
 other_chain words told told_now Done tells command is files told_is other =
     absurd (chain_or_other words tells.0 command files tells.1 is (tells.2 files told_is).chain other)
@@ -165,7 +165,7 @@ other_chain words told told_now Memory tells command is files told_is other = in
 
 -- a bad capture is told
 pub bad_capture : (words : List (List ℕ)) (told told_now : Option Entries) (answer : Status)
-    → IsAnswer words told told_now answer → (command : Command) → IsCommand words command
+    → IsTrueStatus words told told_now answer → (command : Command) → IsCommand words command
     → (files : Entries) → told ≡ Some files → IsChain command.chain files → IsBadCapture command.capture files
     → IsUnlessStopped Capture answer
 bad_capture words told told_now Done tells command is files told_is chain bad =
@@ -183,7 +183,7 @@ bad_capture words told told_now Memory tells command is files told_is chain bad 
 
 -- where nothing is wrong and nothing failed, the run was done
 pub complete : (words : List (List ℕ)) (told told_now : Option Entries) (answer : Status)
-    → IsAnswer words told told_now answer → (command : Command) → IsCommand words command
+    → IsTrueStatus words told told_now answer → (command : Command) → IsCommand words command
     → (files : Entries) → told ≡ Some files → IsChain command.chain files
     → (frames : List Frame) → IsGoodCapture command.capture files frames → answer ≢ Read → answer ≢ Write
     → (answer ≡ Done) ⊎ (answer ≡ Memory)
@@ -202,7 +202,7 @@ complete words told told_now Memory tells command is files told_is chain frames 
 
 -- and a run without a fault among its calls told neither Read nor Write
 pub complete_calmly : (words : List (List ℕ)) (told told_now : Option Entries) (answer : Status)
-    (before now : List Deed) → IsAnswer words told told_now answer → Adds before now (IsStory words answer)
+    (before now : List Deed) → IsTrueStatus words told told_now answer → Adds before now (IsStory words answer)
     → ¬ (faults_of before < faults_of now) → (command : Command) → IsCommand words command
     → (files : Entries) → told ≡ Some files → IsChain command.chain files
     → (frames : List Frame) → IsGoodCapture command.capture files frames
@@ -291,7 +291,7 @@ unread words told told_now deeds fault
 
 -- but where it was done or writing failed, no file changed
 pub none_made : (words : List (List ℕ)) (told told_now : Option Entries) (answer : Status)
-    → IsAnswer words told told_now answer → answer ≢ Done → answer ≢ Write → told_now ≡ told
+    → IsTrueStatus words told told_now answer → answer ≢ Done → answer ≢ Write → told_now ≡ told
 none_made words told told_now Done tells undone unwritten = absurd (undone refl)
 none_made words told told_now Words tells undone unwritten = tells.1
 none_made words told told_now Plan tells undone unwritten = tells.1

@@ -77,14 +77,14 @@ HasCommand words = (command : Command) × IsCommand words command
 
 -- what each status tells of the words, and of the files that were told and are told now. Unless the run
 -- was done or failed to write, these are the same
-abbrev pub IsAnswer : List (List ℕ) → Option Entries → Option Entries → Status → Type 0
-IsAnswer words told told_now status.Done = IsDone words told told_now
-IsAnswer words told told_now status.Words = IsNoCommand words × (told_now ≡ told)
-IsAnswer words told told_now status.Plan = HasOtherChain words told × (told_now ≡ told)
-IsAnswer words told told_now status.Capture = HasBadCapture words told × (told_now ≡ told)
-IsAnswer words told told_now status.Read = HasCommand words × (told_now ≡ told)
-IsAnswer words told told_now status.Write = FailsToWrite words told told_now
-IsAnswer words told told_now status.Memory = HasCommand words × (told_now ≡ told)
+abbrev pub IsTrueStatus : List (List ℕ) → Option Entries → Option Entries → Status → Type 0
+IsTrueStatus words told told_now status.Done = IsDone words told told_now
+IsTrueStatus words told told_now status.Words = IsNoCommand words × (told_now ≡ told)
+IsTrueStatus words told told_now status.Plan = HasOtherChain words told × (told_now ≡ told)
+IsTrueStatus words told told_now status.Capture = HasBadCapture words told × (told_now ≡ told)
+IsTrueStatus words told told_now status.Read = HasCommand words × (told_now ≡ told)
+IsTrueStatus words told told_now status.Write = FailsToWrite words told told_now
+IsTrueStatus words told told_now status.Memory = HasCommand words × (told_now ≡ told)
 
 -- where the words are a command and the files are told, this holds of both
 abbrev pub OnCommand : List (List ℕ) → Option Entries → (Command → Entries → Type 0) → Type 0

@@ -6,7 +6,7 @@ ghost use Rattle.onvm_base.specs.declared.status.Status.TheVariants as status;
 ghost use Rattle.onvm_host.specs.Deeds.{Deed, faults_of};
 ghost use Rattle.onvm_host.specs.Files.{Entries};
 ghost use Rattle.pcap_in.specs.declared.pull.PcapFault.{PcapFault};
-ghost use Rattle.onvm_top.specs.Answers.{IsAnswer, IsBadCapture, IsChain, IsFaultyCapture, IsGoodCapture, IsLargeCapture, IsNoCommand, IsOtherChain, IsUnlessStopped, OnCommand};
+ghost use Rattle.onvm_top.specs.Answers.{IsTrueStatus, IsBadCapture, IsChain, IsFaultyCapture, IsGoodCapture, IsLargeCapture, IsNoCommand, IsOtherChain, IsUnlessStopped, OnCommand};
 ghost use Rattle.onvm_top.specs.Fault.{status_of};
 ghost use Rattle.onvm_top.specs.Stops.{CannotReadSound, IsStopped};
 ghost use Rattle.onvm_top.specs.Story.{Adds, CannotReadChain, IsStory, ReadsChain, Then};
@@ -24,13 +24,13 @@ pub fn one_cause()
 /// Words that are no command are told.
 pub fn no_command()
     ensures { (words : List (List ℕ)) (told told_now : Option Entries) (answer : Status)
-        → IsAnswer words told told_now answer → IsNoCommand words → answer ≡ status.Words }
+        → IsTrueStatus words told told_now answer → IsNoCommand words → answer ≡ status.Words }
 {}
 
 /// Another chain file is told, unless memory ran out or that file could not be read.
 pub fn other_chain()
     ensures plan { (words : List (List ℕ)) (told told_now : Option Entries) (answer : Status)
-        → IsAnswer words told told_now answer
+        → IsTrueStatus words told told_now answer
         → OnCommand words told (λ command files. IsOtherChain command.chain files
         → IsUnlessStopped status.Plan answer) }
     ensures read { (words : List (List ℕ)) (told told_now : Option Entries)
@@ -43,7 +43,7 @@ pub fn other_chain()
 /// A bad capture behind a good chain file is told, unless an input failed or memory ran out.
 pub fn bad_capture()
     ensures { (words : List (List ℕ)) (told told_now : Option Entries) (answer : Status)
-        → IsAnswer words told told_now answer
+        → IsTrueStatus words told told_now answer
         → OnCommand words told (λ command files. IsChain command.chain files
         → IsBadCapture command.capture files → IsUnlessStopped status.Capture answer) }
 {}
@@ -63,7 +63,7 @@ pub fn unread()
 pub fn complete()
     ensures { (words : List (List ℕ)) (told told_now : Option Entries) (answer : Status)
         (before now : List Deed)
-        → IsAnswer words told told_now answer → Adds before now (IsStory words answer)
+        → IsTrueStatus words told told_now answer → Adds before now (IsStory words answer)
         → ¬ (faults_of before < faults_of now)
         → OnCommand words told (λ command files. IsChain command.chain files
         → (frames : List Frame) → IsGoodCapture command.capture files frames
@@ -73,6 +73,6 @@ pub fn complete()
 /// Unless a run was done or failed to write, no file has changed.
 pub fn none_made()
     ensures { (words : List (List ℕ)) (told told_now : Option Entries) (answer : Status)
-        → IsAnswer words told told_now answer → answer ≢ status.Done → answer ≢ status.Write
+        → IsTrueStatus words told told_now answer → answer ≢ status.Done → answer ≢ status.Write
         → told_now ≡ told }
 {}

@@ -5,7 +5,7 @@ ghost use Rattle.onvm_host.specs.Deeds.{Deed};
 ghost use Rattle.onvm_host.specs.Files.{Entries};
 ghost use Rattle.onvm_host.specs.Names.{SameNames};
 ghost use Rattle.pcap_in.specs.Emitted.{emit};
-ghost use Rattle.onvm_top.specs.Answers.{IsAnswer, IsChain, IsGoodCapture};
+ghost use Rattle.onvm_top.specs.Answers.{IsTrueStatus, IsChain, IsGoodCapture};
 ghost use Rattle.onvm_top.specs.Command.{MayReplay};
 ghost use Rattle.onvm_top.specs.Fault.{line_of, status_of};
 ghost use Rattle.onvm_top.specs.Known.{OnTold};
@@ -44,7 +44,7 @@ pub fn run<R: AllocGlobal, H: Host, C: Clock, G: Gate>(
         (IsStory (map string_bytes words.now) result) }
 
     // What the status tells of the words and of the files.
-    ensures answer { IsAnswer (map string_bytes words.now)
+    ensures answer { IsTrueStatus (map string_bytes words.now)
         (H.files host.old) (H.files host.new) result }
 
     // A run that is done says nothing. Of every other, what stopped it is said behind all its calls.

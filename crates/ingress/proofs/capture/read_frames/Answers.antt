@@ -4,7 +4,7 @@ use Rattle.onvm_base.specs.declared.frame.Frame.{Frame}
 use Rattle.pcap_in.specs.Classic.{IsCapture}
 use Rattle.pcap_in.proofs.HasRead.{HasRead-fed, HasRead-length}
 use Rattle.ingress.proofs.Captured.{HasRead-bound, inside-WantsMore, short-WantsMore}
-use Rattle.ingress.proofs.Sound.{sound-WantsMore, WantsMore-unfed}
+use Rattle.ingress.proofs.Sound.{sound-WantsMore, WantsMore-unfed_reading}
 use Rattle.std.proofs.lemmas.Result.{err_from_is_err_and}
 use Rattle.pcap_in.specs.Faulty.{IsCaptureUpTo}
 use Rattle.ingress.specs.Limits.{capture_limit, IsWithinLimits, PassesLimit}
@@ -18,7 +18,7 @@ use Rattle.ingress.proofs.capture.read_frames.Goals as goal
 pub pieces-init : goal.pieces-init
 pieces-init g c = record {
   within = search rules;
-  wants = rw c.make-reader.ensures WantsMore-unfed;
+  wants = rw c.make-reader.ensures WantsMore-unfed_reading;
   named = search rules;
   read = ([], search rules, search rules, MovedSince-start _);
 }

@@ -2,11 +2,11 @@ use Rattle.std.proofs.Common.{sym, subst, Option, map, rules}
 use Rattle.std.specs.Prelude.{string_bytes}
 use Rattle.onvm_base.specs.declared.status.Status.{Status}
 use Rattle.onvm_host.specs.Files.{Entries}
-use Rattle.onvm_top.specs.Answers.{IsAnswer}
+use Rattle.onvm_top.specs.Answers.{IsTrueStatus}
 use Rattle.onvm_top.specs.Fault.{line_of}
 use Rattle.onvm_top.specs.Stops.{IsStopped}
 use Rattle.onvm_top.specs.Story.{Adds, IsStory}
-use Rattle.onvm_top.proofs.Answered.{IsAnswer-stopped}
+use Rattle.onvm_top.proofs.Answered.{IsTrueStatus-stopped}
 use Rattle.onvm_top.proofs.Story.{Adds-line, ok_or_err, says_line}
 use Rattle.onvm_top.proofs.manager.run.Goals as goal
 
@@ -26,10 +26,10 @@ pub returns-in-Err-clause-answer : goal.returns-in-Err-clause-answer
 returns-in-Err-clause-answer g c =
     let told = g.H.Host.files c.args.host.now in
     let stops = c.in-Err.ensures.stopped in
-    let Answer : Option Entries → Status → Type 0 = IsAnswer (map string_bytes c.args.words.now) told in
+    let Answer : Option Entries → Status → Type 0 = IsTrueStatus (map string_bytes c.args.words.now) told in
     let tells : Answer (g.H.Host.files c.replay.new.host) c.status.result =
     subst (Answer (g.H.Host.files c.replay.new.host)) (sym c.status.ensures)
-    (IsAnswer-stopped _ told (g.H.Host.files c.replay.new.host) stops.0 c.in-Err.fault stops.2) in
+    (IsTrueStatus-stopped _ told (g.H.Host.files c.replay.new.host) stops.0 c.in-Err.fault stops.2) in
     let Now : Option Entries → Type 0 = λ now. Answer now c.status.result in
     subst Now (sym c.say_all.ensures.files) tells
 
