@@ -67,7 +67,10 @@ fn packets_of(alloc: Global, burst: u16) -> Result<Vec<Packet>, NoMemory> {
     let mut packets = Vec::with_capacity(alloc, usize::from(BURST))?;
     for place in 0..BURST {
         // An odd factor gives each flow a sender of its own.
-        let sender = burst.wrapping_mul(BURST).wrapping_add(place).wrapping_mul(40_503);
+        let sender = burst
+            .wrapping_mul(BURST)
+            .wrapping_add(place)
+            .wrapping_mul(40_503);
         packets.push(frame_from(alloc, sender)?)?;
     }
     Ok(packets)

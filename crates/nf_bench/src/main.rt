@@ -71,7 +71,12 @@ fn measure_flows(rt: &HostRuntime) -> Result<(), NoMemory> {
         ("nat, new flow", costs.new_flow),
         ("nat, known flow", costs.known_flow),
     ] {
-        let _ = println!(rt; "{name}: {}.{} ns, sum {}", tenths / 10, tenths % 10, costs.sum);
+        let _ = println!(rt;
+            "{name}: {}.{} ns, sum {}",
+            tenths / 10,
+            tenths % 10,
+            costs.sum
+        );
     }
     Ok(())
 }

@@ -81,7 +81,7 @@ module _ {V : Type 0} {F : V → Type 0} where
       (left after : List (Guest V F)) (function : FunctionPlan) (one : UnitOf (Guest V F))
       → upto < length functions → function ≡ get_or functions upto function
       → ((j : ℕ) (other : FunctionPlan) (name : List ℕ) → upto < j → slice_get functions j ≡ Some other
-          → function.kind ≡ kind.Guest name → other.kind ≢ kind.Guest name)
+      → function.kind ≡ kind.Guest name → other.kind ≢ kind.Guest name)
       → AreFirst functions guests upto units left → IsUnitOf left function.kind one
       → ((name : List ℕ) → function.kind ≢ kind.Guest name → guest_named name after ≡ guest_named name left)
       → AreFirst functions guests (upto + 1) (units ++ one ∷ []) after

@@ -2,8 +2,10 @@
 use Rattle.std.proofs.Common.{◌≡◌, ◌≢◌, ◌∙◌, sym, ap, subst, refl, ℕ, zero, suc, ◌+◌, ◌<◌, ◌≤◌, Bool, true, false, Option, Some, List, [], ◌∷◌, ◌++◌, length, get_or, All, IsSome, arith}
 use Rattle.std.specs.List.{slice_get}
 use Rattle.std.proofs.lemmas.Bool.{true≢false}
-use Rattle.std.proofs.lemmas.Option.{none-some, same_Some}
-use Rattle.onvm_base.specs.Plan.{AreDifferent, IsFunction, IsKind, IsName, is_name_character}
+use Rattle.std.proofs.lemmas.Option.{none-some, same_Some, slice_get_within}
+use Rattle.onvm_base.specs.Plan.{AreDifferent, AreSizes, IsChainPlan, IsFunction, IsKind, IsName, IsPlan, Sizes, is_name_character}
+use Rattle.onvm_base.specs.declared.chain.ChainPlan.{ChainPlan}
+use Rattle.onvm_base.specs.declared.rules.RulePlan.{RulePlan}
 use Rattle.onvm_base.specs.declared.function.FunctionPlan.{FunctionPlan}
 use Rattle.onvm_base.specs.declared.function.Kind.{Kind}
 use Rattle.onvm_base.specs.declared.function.Kind.TheVariants as kind
@@ -104,3 +106,60 @@ handed_in x y z first second third =
     _ _
     (λ name is. subst (λ n. IsSome (guest_named n (x ∷ y ∷ z ∷ []))) (ap name_in is) (rw (first, second, third) refl))
     (λ name is. subst (λ n. IsSome (guest_named n (x ∷ y ∷ z ∷ []))) (ap name_in is) (rw (first, second, third) refl))
+
+-- the numbers of the plan
+abbrev pub sizes : Sizes
+sizes =
+    record {
+      version = 1;
+      ports = 1;
+      transmit = 1;
+      cores = 1;
+      buffers = 1024;
+      ring = 128;
+      output = 128;
+      burst = 32;
+      high = 96;
+      low = 32;
+      age = 100000;
+      window = 100000000;
+      tick = 10000000;
+    }
+
+sizes_are : AreSizes sizes
+sizes_are =
+    record {
+      version = refl;
+      ports = (omega arith, omega arith);
+      transmit = (omega arith, omega arith);
+      cores = (omega arith, omega arith);
+      buffers = (omega arith, omega arith);
+      ring = (omega arith, omega arith);
+      output = (omega arith, omega arith);
+      burst = (omega arith, omega arith);
+      low = omega arith;
+      marks = omega arith;
+      high = omega arith;
+      age = omega arith;
+      window = (omega arith, omega arith);
+      tick = (omega arith, omega arith);
+    }
+
+pub is_plan : (functions : List FunctionPlan) (chains : List ChainPlan) (rules : List RulePlan) → functions ≡ two_guests
+    → length chains ≡ 1 → All (IsChainPlan 1 two_guests) chains → rules ≡ []
+    → IsPlan sizes functions chains rules (record { 0 = 0 })
+is_plan functions chains rules are one right none =
+    subst (λ fs. IsPlan sizes fs chains rules (record { 0 = 0 })) (sym are)
+    (subst (λ rs. IsPlan sizes two_guests chains rs (record { 0 = 0 })) (sym none)
+    (record {
+      sizes_are = sizes_are;
+      function_count = (omega arith, omega arith);
+      functions_are = functions_are;
+      functions_differ = functions_differ;
+      chain_count = (omega (arith, one), omega (arith, one));
+      chains_are = right;
+      chains_differ = λ i j c d below here there. absurd (omega (arith, one, slice_get_within chains j d there));
+      rule_count = omega arith;
+      rules_are = λ k d lt. absurd (omega arith);
+      default_is = omega (arith, one);
+    }))

@@ -156,18 +156,36 @@ fn each_guest_is_where_it_is_named_and_the_spare_one_is_dropped(
     let named = Arc::new(rt.alloc(), ())?;
     let guests = guests(rt.alloc(), &spare, &named)?;
     let plan = plan(rt.alloc())?;
-    assert_eq!(rt; (Arc::strong_count(&spare), Arc::strong_count(&named)), (2, 3));
+    assert_eq!(rt;
+        (Arc::strong_count(&spare), Arc::strong_count(&named)),
+        (2, 3)
+    );
     let Ok(mut units) = units(rt.alloc(), &plan, guests) else {
         // Comes only where an allocation is made to fail: then all guests are dropped.
-        assert_eq!(rt; (Arc::strong_count(&spare), Arc::strong_count(&named)), (1, 1));
+        assert_eq!(rt;
+            (Arc::strong_count(&spare), Arc::strong_count(&named)),
+            (1, 1)
+        );
         return Ok(());
     };
     may_be_handed_over(&units);
-    assert_eq!(rt; (Arc::strong_count(&spare), Arc::strong_count(&named)), (1, 3));
-    assert_eq!(rt; verdict_of(rt.alloc(), &mut units, 0)?, Some(Verdict::Out(9)));
-    assert_eq!(rt; verdict_of(rt.alloc(), &mut units, 1)?, Some(Verdict::Out(8)));
+    assert_eq!(rt;
+        (Arc::strong_count(&spare), Arc::strong_count(&named)),
+        (1, 3)
+    );
+    assert_eq!(rt;
+        verdict_of(rt.alloc(), &mut units, 0)?,
+        Some(Verdict::Out(9))
+    );
+    assert_eq!(rt;
+        verdict_of(rt.alloc(), &mut units, 1)?,
+        Some(Verdict::Out(8))
+    );
     assert_eq!(rt; verdict_of(rt.alloc(), &mut units, 2)?, None);
     drop(units);
-    assert_eq!(rt; (Arc::strong_count(&spare), Arc::strong_count(&named)), (1, 1));
+    assert_eq!(rt;
+        (Arc::strong_count(&spare), Arc::strong_count(&named)),
+        (1, 1)
+    );
     Ok(())
 }

@@ -116,21 +116,21 @@ record IsSumPlace (segment : Segment) (j : ℕ) : Type 0 where
 sum_place : (segment : Segment) → (j : ℕ) × IsSumPlace segment j
 sum_place segment = elim (cases_Bool (segment.protocol == 6)) [
   | inl tcp ↦ (
-      8,
-      record {
-        at = ap (λ b. segment.behind + (if b then 16 else 6)) tcp;
-        end = ap (λ b. if b then 18 else 8) tcp;
-        past = omega arith;
-      },
-    )
+    8,
+    record {
+      at = ap (λ b. segment.behind + (if b then 16 else 6)) tcp;
+      end = ap (λ b. if b then 18 else 8) tcp;
+      past = omega arith;
+    },
+  )
   | inr udp ↦ (
-      3,
-      record {
-        at = ap (λ b. segment.behind + (if b then 16 else 6)) udp;
-        end = ap (λ b. if b then 18 else 8) udp;
-        past = omega arith;
-      },
-    )
+    3,
+    record {
+      at = ap (λ b. segment.behind + (if b then 16 else 6)) udp;
+      end = ap (λ b. if b then 18 else 8) udp;
+      past = omega arith;
+    },
+  )
 ]
 
 number-fits : (p : ℕ) (bytes : List ℕ) → AreBytes bytes → number 2 p bytes < 65536

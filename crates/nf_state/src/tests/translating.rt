@@ -3,9 +3,9 @@ ghost use Rattle.std.specs.Prelude.{◌≤◌, length};
 ghost use Rattle.onvm_base.specs.declared.limits.TheConstants.{MAX_FRAME_BYTES};
 
 use super::frames::{
-    GENERATED, GENERATED_SENT_ON, SHORT, TAGGED_FROM_INSIDE, TAGGED_SENT_ON, TCP_ANSWER, TCP_DELIVERED, TCP_FROM_INSIDE,
-    TCP_SENT_ON, UDP_ANSWER, UDP_DELIVERED, UDP_FROM_INSIDE, UDP_SENT_ON, ZERO_FROM_INSIDE,
-    ZERO_SENT_ON, with_payload,
+    GENERATED, GENERATED_SENT_ON, SHORT, TAGGED_FROM_INSIDE, TAGGED_SENT_ON, TCP_ANSWER,
+    TCP_DELIVERED, TCP_FROM_INSIDE, TCP_SENT_ON, UDP_ANSWER, UDP_DELIVERED, UDP_FROM_INSIDE,
+    UDP_SENT_ON, ZERO_FROM_INSIDE, ZERO_SENT_ON, with_payload,
 };
 use super::{may_be_handed_over, meta};
 use crate::Keeper;
@@ -29,11 +29,7 @@ fn nat(alloc: Global) -> Result<Keeper, NoMemory> {
 }
 
 // The verdict for a frame, and the packet that is left.
-fn handled(
-    alloc: Global,
-    nat: &mut Keeper,
-    frame: &[u8],
-) -> Result<(Verdict, Packet), NoMemory>
+fn handled(alloc: Global, nat: &mut Keeper, frame: &[u8]) -> Result<(Verdict, Packet), NoMemory>
     requires { length frame.now ≤ MAX_FRAME_BYTES }
 {
     let mut packet = Packet::from_slice(alloc, frame)?;

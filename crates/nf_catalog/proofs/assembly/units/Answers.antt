@@ -37,9 +37,9 @@ loop-function-preserved g c =
     (first_more functions c.args.guests.items index c.loop-function.units c.loop-function.guests.items
     c.make.new.guests.items function c.in_ok-make.field-0 lt is
     (λ j other name below there named.
-        (c.args.plan.now.kept.functions_differ index j function other below
-        (slice_get-get_or functions index function lt ∙ ap Some (sym is)) there).guests
-        name named)
+    (c.args.plan.now.kept.functions_differ index j function other below
+    (slice_get-get_or functions index function lt ∙ ap Some (sym is)) there).guests
+    name named)
     c.loop-function.invariant c.in_ok-make.ensures.made c.in_ok-make.ensures.others)
 
 pub returns : goal.returns
