@@ -3,6 +3,7 @@
 # ./onvm, and compares what it emits, says and answers with what is expected. Prints what is wrong
 # and ends with status 1, or else prints how many passed.
 cd "$(dirname "$0")/.." || exit 1
+make --no-print-directory -s build || exit 1
 room=$(mktemp -d) || exit 1
 trap 'rm -rf "$room"' EXIT
 passed=0

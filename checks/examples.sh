@@ -6,6 +6,7 @@
 # expected.pcap is what is emitted (without it nothing is created), expected.txt what is said
 # (without it nothing), status the exit status (without it 0).
 cd "$(dirname "$0")/.." || exit 1
+make --no-print-directory -s build || exit 1
 room=$(mktemp -d) || exit 1
 trap 'rm -rf "$room"' EXIT
 passed=0

@@ -84,7 +84,8 @@ fn burst_of(alloc: Global, head: &[u8]) -> Result<Vec<Packet>, NoMemory>
     Ok(burst)
 }
 
-fn handle_all<N: NetFunction>(function: &mut N, burst: &mut [Packet]) -> Result<u64, NoMemory> {
+/// Hands a function a burst of frames, and adds up its verdicts.
+pub fn handle_all<N: NetFunction>(function: &mut N, burst: &mut [Packet]) -> Result<u64, NoMemory> {
     let mut verdicts = 0u64;
     for packet in burst {
         let verdict = function.handle(packet, &META)?;
@@ -102,8 +103,8 @@ fn number_of(verdict: Verdict) -> u64 {
     }
 }
 
-// A sum over the heads of frames.
-fn sum_of(burst: &[Packet]) -> u64 {
+/// A sum over the heads of frames.
+pub fn sum_of(burst: &[Packet]) -> u64 {
     let mut sum = 0u64;
     for packet in burst {
         for byte in packet.bytes().iter().take(HEAD_BYTES) {

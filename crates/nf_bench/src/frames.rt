@@ -34,3 +34,11 @@ pub fn frame(alloc: Global, head: &[u8], net: u8) -> Result<Packet, NoMemory>
     bytes[head.len() - TARGET_BEFORE_END] = net;
     Packet::from_slice(alloc, &bytes)
 }
+
+/// A frame of UDP over IPv4 from the address 10.0.0.0 + `sender`.
+pub fn frame_from(alloc: Global, sender: u16) -> Result<Packet, NoMemory> {
+    let mut bytes = [0; FRAME_BYTES];
+    bytes[..UDP.len()].copy_from_slice(&UDP);
+    bytes[28..30].copy_from_slice(&sender.to_be_bytes());
+    Packet::from_slice(alloc, &bytes)
+}

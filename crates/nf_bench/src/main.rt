@@ -5,10 +5,12 @@ ghost use Rattle.std.specs.Prelude.{◌≤◌, length};
 ghost use Rattle.nf_bench.specs.declared.frames.TheConstants.{FRAME_BYTES, TARGET_BEFORE_END};
 
 mod burst;
+mod flows;
 mod frames;
 mod kinds;
 
 use burst::cost_of;
+use flows::flow_costs;
 use frames::{TAGGED, UDP};
 use kinds::{balance, filter, route};
 use nf_api::NetFunction;
@@ -58,7 +60,25 @@ fn measure_all(rt: &HostRuntime, rounds: u32) -> Result<(), NoMemory> {
     measure(rt, "macs", macs, &UDP, rounds)?;
     measure(rt, "route of 1", route(alloc, 1)?, &UDP, rounds)?;
     measure(rt, "route of 256", route(alloc, 256)?, &UDP, rounds)?;
-    measure(rt, "balance", balance(alloc)?, &UDP, rounds)
+    measure(rt, "balance", balance(alloc)?, &UDP, rounds)?;
+    measure_flows(rt)
+}
+
+// Prints what NAT costs for a new and for a known flow.
+fn measure_flows(rt: &HostRuntime) -> Result<(), NoMemory> {
+    let costs = flow_costs(rt.alloc(), &SysClock::make(*rt))?;
+    for (name, tenths) in [
+        ("nat, new flow", costs.new_flow),
+        ("nat, known flow", costs.known_flow),
+    ] {
+        let _ = println!(rt;
+            "{name}: {}.{} ns, sum {}",
+            tenths / 10,
+            tenths % 10,
+            costs.sum
+        );
+    }
+    Ok(())
 }
 
 // Prints what a function costs for a frame with this head.

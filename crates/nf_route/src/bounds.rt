@@ -14,14 +14,14 @@ pub fn bounds_of(alloc: Global, entries: &[RouteEntry]) -> Result<Vec<u32>, NoMe
     ensures rise { IfOk result (λ bounds. IsStrictlyIncreasing bounds.items) }
     ensures part { IfOk result (λ bounds. AreBounds entries.now bounds.items) }
 {
-    let mut bounds = gathered(alloc, entries)?;
+    let mut bounds = unsorted_bounds(alloc, entries)?;
     bounds.sort_unstable();
     bounds.dedup();
     Ok(bounds)
 }
 
 // The bounds as they are come upon.
-fn gathered(alloc: Global, entries: &[RouteEntry]) -> Result<Vec<u32>, NoMemory>
+fn unsorted_bounds(alloc: Global, entries: &[RouteEntry]) -> Result<Vec<u32>, NoMemory>
     ensures { IfOk result (λ bounds. AreBounds entries.now bounds.items) }
 {
     let mut bounds = Vec::new(alloc);

@@ -49,7 +49,7 @@ impl Route {
         ensures { (port : PortId) → IsAnswer (kind_of self.now) port bytes.now result bytes.now }
     {
         match self {
-            Route::Route { table } => routed(table, &network(bytes)),
+            Route::Route { table } => verdict_for(table, &network(bytes)),
             Route::Balance { services } => {
                 Verdict::ToService(services.pick(flow_hash(&parse(bytes))))
             }
@@ -58,7 +58,7 @@ impl Route {
 }
 
 // The verdict of a table for a network head.
-fn routed(table: &Table, net: &Net) -> Verdict
+fn verdict_for(table: &Table, net: &Net) -> Verdict
     ensures { IsRouted table.now net.now result }
 {
     match *net {

@@ -36,11 +36,11 @@ pub fn verdict_at(ranges: &[Range], target: u32) -> Verdict
     ensures { (at : ℕ) × (range : Range) × IsIn ranges.now target at range
         × (result ≡ range.verdict) }
 {
-    ranges[begun(ranges, target) - 1].verdict
+    ranges[count_up_to(ranges, target) - 1].verdict
 }
 
 // How many ranges begin at an address or below it, by binary search.
-fn begun(ranges: &[Range], target: u32) -> usize
+fn count_up_to(ranges: &[Range], target: u32) -> usize
     requires { IsNonDecreasingBy (λ (range : Range). range.first) ranges.now }
     ensures bound { result ≤ length ranges.now }
     ensures point { IsPartitionPoint (λ range. range.first ≤ target) (λ range. target < range.first)

@@ -6,18 +6,18 @@ use Rattle.onvm_base.specs.declared.ids.RingId.{RingId}
 use Rattle.onvm_base.specs.declared.ids.BufId.{BufId}
 use Rattle.onvm_base.specs.declared.ids.FrameId.{FrameId}
 use Rattle.onvm_core.specs.declared.parcel.Parcel.{Parcel}
-use Rattle.onvm_core.specs.declared.step.Item.TheVariants.{Buffer, Number}
+use Rattle.onvm_core.specs.declared.step.Item.TheVariants.{Buffer}
 use Rattle.onvm_core.specs.declared.step.Act.{Act}
-use Rattle.onvm_core.specs.declared.step.Act.TheVariants.{Split, Join, Take, Give, Push, Full, Pop, Empty, Look, Post}
+use Rattle.onvm_core.specs.declared.step.Act.TheVariants.{Take, Give, Push, Pop, Look}
 use Rattle.onvm_core.specs.declared.step.Step.{Step}
 use Rattle.onvm_core.specs.History.{History, popped_from}
 use Rattle.onvm_core.specs.Lawful.{AllowsAct, IsLawful}
-use Rattle.onvm_core.specs.Records.{recorded, records_in}
-use Rattle.onvm_core.specs.Places.{how_many, one_if, all_below}
-use Rattle.onvm_core.specs.Logs.{Setting, of_port, Log, log_of, frame_after, IsNumbered}
+use Rattle.onvm_core.specs.Records.{records_of_act, records_in}
+use Rattle.onvm_core.specs.Places.{how_many, one_if, numbers_below}
+use Rattle.onvm_core.specs.Logs.{Setting, entries_of_port, Log, log_of, entry_after, IsNumbered}
 use Rattle.onvm_core.specs.Receiving.{receive_phase, MayReceive}
 use Rattle.onvm_core.specs.Blocks.{kind_of, MayFollow, IsOfBlocks, AllOfBlocks}
-use Rattle.onvm_core.specs.Frames.{Load, load, load_of, load_after, block_frame, frame_of, same_frame, has_frame, buffers_with, records_of, begun_in, has_begun, AllEnded, AllInPool}
+use Rattle.onvm_core.specs.Frames.{Load, load, load_of, load_after, block_frame, frame_of, same_frame, has_frame, buffer_count, record_count, begun_count, has_begun, AllEnded, AllInPool}
 use Rattle.onvm_base.specs.declared.outcome.Record.{Record}
 use Rattle.onvm_core.specs.declared.entry.Entry.{Entry}
 use Rattle.std.specs.Prelude.{◌&&◌, nat_le}
@@ -30,17 +30,18 @@ use Rattle.onvm_core.proofs.Begun.{starts, own_begins, other_starts, kind_receiv
 
 -- Counts below n of two tests that agree but at one number
 
-same_counts : (f g : ℕ → Bool) (n : ℕ) → ((k : ℕ) → f k ≡ g k) → how_many f (all_below n) ≡ how_many g (all_below n)
+same_counts : (f g : ℕ → Bool) (n : ℕ) → ((k : ℕ) → f k ≡ g k)
+    → how_many f (numbers_below n) ≡ how_many g (numbers_below n)
 same_counts f g zero h = refl
 same_counts f g (suc n) h = rw (h n, same_counts f g n h) refl
 
 same_below : (f g : ℕ → Bool) (n x : ℕ) → n ≤ x → ((k : ℕ) → (k ≡ x → ⊥) → f k ≡ g k)
-    → how_many f (all_below n) ≡ how_many g (all_below n)
+    → how_many f (numbers_below n) ≡ how_many g (numbers_below n)
 same_below f g zero x le h = refl
 same_below f g (suc n) x le h = rw (h n (λ e. omega arith), same_below f g n x (omega arith) h) refl
 
 change_one : (f g : ℕ → Bool) (n x : ℕ) → x < n → ((k : ℕ) → (k ≡ x → ⊥) → f k ≡ g k)
-    → how_many f (all_below n) + one_if (g x) ≡ how_many g (all_below n) + one_if (f x)
+    → how_many f (numbers_below n) + one_if (g x) ≡ how_many g (numbers_below n) + one_if (f x)
 change_one f g zero x lt h = absurd (omega arith)
 change_one f g (suc n) x lt h =
     elim (cases_order x n) [
@@ -51,14 +52,14 @@ change_one f g (suc n) x lt h =
     ]
 
 abbrev told_of : FrameId → Act → ℕ
-told_of frame act = how_many (λ (told : Record). same_frame told.frame frame) (recorded act)
+told_of frame act = how_many (λ (told : Record). same_frame told.frame frame) (records_of_act act)
 
 abbrev count_after : FrameId → FrameId → Act → (ℕ → Option Load) → ℕ → ℕ
 count_after fresh frame act loads n =
-    how_many (λ buf. has_frame frame (load_after buf fresh act (loads buf))) (all_below n)
+    how_many (λ buf. has_frame frame (load_after buf fresh act (loads buf))) (numbers_below n)
 
 abbrev count_of : FrameId → (ℕ → Option Load) → ℕ → ℕ
-count_of frame loads n = how_many (λ buf. has_frame frame (loads buf)) (all_below n)
+count_of frame loads n = how_many (λ buf. has_frame frame (loads buf)) (numbers_below n)
 
 -- what must be known of what the buffers have before an act
 abbrev pub Fits : (ℕ → Option Load) → ℕ → Act → Type 0
@@ -115,15 +116,8 @@ count_step fresh frame (Pop r (Buffer b parcel)) loads n fits =
       same_counts (λ buf. has_frame frame (load_of buf (Buffer b parcel) (loads buf)))
           (λ buf. has_frame frame (loads buf)) n (keeps fresh frame loads b parcel (Loaded parcel) fits refl),
     )
-count_step fresh frame (Push r (Number m)) loads n fits = refl
-count_step fresh frame (Pop r (Number m)) loads n fits = refl
-count_step fresh frame (Split a) loads n fits = refl
-count_step fresh frame (Join a) loads n fits = refl
-count_step fresh frame (Full r) loads n fits = refl
-count_step fresh frame (Empty a) loads n fits = refl
-count_step fresh frame (Look w v None) loads n fits = refl
 count_step fresh frame (Look w v (Some told)) loads n fits = omega arith
-count_step fresh frame (Post a b) loads n fits = refl
+count_step fresh frame act loads n fits = refl
 
 -- what lawful steps and blocks say of the next act
 pub fits_of : (setting : Setting) (before : History) (role : ℕ) (act : Act)
@@ -140,14 +134,7 @@ fits_of setting before role (Push r (Buffer b parcel)) lawful allowed popped_fro
     let had : HasLoad setting before role b.0 lets.0 = own_load_is setting before lawful role b.0 lets.0 lets.1 in
     (lets.0, had.has, lets.2)
 fits_of setting before role (Pop r (Buffer b parcel)) lawful allowed popped_from lets = popped_from r b parcel refl
-fits_of setting before role (Push r (Number n)) lawful allowed popped_from lets = tt
-fits_of setting before role (Pop r (Number n)) lawful allowed popped_from lets = tt
-fits_of setting before role (Split a) lawful allowed popped_from lets = tt
-fits_of setting before role (Join a) lawful allowed popped_from lets = tt
-fits_of setting before role (Full r) lawful allowed popped_from lets = tt
-fits_of setting before role (Empty a) lawful allowed popped_from lets = tt
-fits_of setting before role (Look w v t) lawful allowed popped_from lets = tt
-fits_of setting before role (Post a b) lawful allowed popped_from lets = tt
+fits_of setting before role act lawful allowed popped_from lets = tt
 
 -- Blocks of earlier steps
 
@@ -167,8 +154,8 @@ own_blocks setting step before all =
 -- each step adds to a frame's records and buffers just what it begins
 pub total_step : (setting : Setting) (frame : FrameId) (step : Step) (before : History)
     → IsNumbered setting → IsLawful setting.layout (step ∷ before) → AllOfBlocks setting (step ∷ before)
-    → records_of frame (step ∷ before) + buffers_with setting frame (step ∷ before)
-    ≡ records_of frame before + buffers_with setting frame before
+    → record_count frame (step ∷ before) + buffer_count setting frame (step ∷ before)
+    ≡ record_count frame before + buffer_count setting frame before
     + starts (block_frame setting step.role (log_of step.role before)) frame step.act
 total_step setting frame step before numbered lawful blocks =
     let own : IsOfBlocks setting step.role (step.act ∷ log_of step.role before) =
@@ -180,13 +167,13 @@ total_step setting frame step before numbered lawful blocks =
     = popped_load setting step before lawful (content_loaded setting before lawful.1) in
     let fits : Fits (λ buf. load setting buf before) (setting.layout.ports * setting.layout.buffers) step.act =
     fits_of setting before step.role step.act lawful.1 lawful.0.allowed popped_from lets in
-    let counted : buffers_with setting frame (step ∷ before) + told_of frame step.act
-    ≡ buffers_with setting frame before
+    let counted : buffer_count setting frame (step ∷ before) + told_of frame step.act
+    ≡ buffer_count setting frame before
     + starts (block_frame setting step.role (log_of step.role before)) frame step.act
     = count_step (block_frame setting step.role (log_of step.role before)) frame step.act
     (λ buf. load setting buf before) (setting.layout.ports * setting.layout.buffers) fits in
-    let recs : records_of frame (step ∷ before) ≡ records_of frame before + told_of frame step.act =
-    how_many-append (λ (told : Record). same_frame told.frame frame) (records_in before) (recorded step.act) in
+    let recs : record_count frame (step ∷ before) ≡ record_count frame before + told_of frame step.act =
+    how_many-append (λ (told : Record). same_frame told.frame frame) (records_in before) (records_of_act step.act) in
     omega (arith, counted, recs)
 
 -- Which frames have begun
@@ -228,7 +215,7 @@ foreign_starts setting role log act frame numbered own foreign =
           subst (λ k. MayFollow setting role k log act) (kind_receives setting.layout role met) own.0 in
           elim (own_begins setting role log act frame numbered may) [
             | inl none ↦ none.1
-            | inr one ↦ one.1 ∙ same_frame_port role (begun_in (receive_phase setting log) + 1) frame foreign
+            | inr one ↦ one.1 ∙ same_frame_port role (begun_count (receive_phase setting log) + 1) frame foreign
           ]
       | inr unmet ↦
           other_starts setting role (kind_of setting.layout role) log act (block_frame setting role log) frame
@@ -237,21 +224,21 @@ foreign_starts setting role log act frame numbered own foreign =
 
 begun_own : (setting : Setting) (log : Log) (act : Act) (frame : FrameId) (port : ℕ)
     → IsNumbered setting → (port == frame.port.0) ≡ true → MayReceive setting port log act
-    → one_if (nat_lt 0 frame.number && nat_le frame.number (begun_in (receive_phase setting (act ∷ log))))
-    ≡ one_if (nat_lt 0 frame.number && nat_le frame.number (begun_in (receive_phase setting log)))
+    → one_if (nat_lt 0 frame.number && nat_le frame.number (begun_count (receive_phase setting (act ∷ log))))
+    ≡ one_if (nat_lt 0 frame.number && nat_le frame.number (begun_count (receive_phase setting log)))
     + starts (block_frame setting port log) frame act
 begun_own setting log act frame port numbered same may =
     elim (own_begins setting port log act frame numbered may) [
       | inl none ↦ omega (arith, none.1, ap (λ (n : ℕ). one_if (nat_lt 0 frame.number && nat_le frame.number n)) none.0)
       | inr one ↦
           let started : starts (block_frame setting port log) frame act
-          ≡ one_if (begun_in (receive_phase setting log) + 1 == frame.number)
+          ≡ one_if (begun_count (receive_phase setting log) + 1 == frame.number)
           = one.1 ∙ rw same refl in
           omega (
             arith,
             started,
             ap (λ (n : ℕ). one_if (nat_lt 0 frame.number && nat_le frame.number n)) one.0,
-            begun_more frame.number (begun_in (receive_phase setting log)),
+            begun_more frame.number (begun_count (receive_phase setting log)),
           )
     ]
 
@@ -271,21 +258,22 @@ begun_step setting frame step before numbered blocks =
                 subst (λ k. MayFollow setting step.role k (log_of step.role before) step.act)
                 (kind_receives setting.layout step.role known_role) own.0 in
                 let sum : one_if (nat_lt 0 frame.number && nat_le frame.number
-                (begun_in (receive_phase setting (step.act ∷ log_of step.role before))))
+                (begun_count (receive_phase setting (step.act ∷ log_of step.role before))))
                 ≡ one_if (nat_lt 0 frame.number && nat_le frame.number
-                (begun_in (receive_phase setting (log_of step.role before))))
+                (begun_count (receive_phase setting (log_of step.role before))))
                 + starts (block_frame setting step.role (log_of step.role before)) frame step.act
                 = begun_own setting (log_of step.role before) step.act frame step.role numbered mine may in
                 let log_now : log_of frame.port.0 (step ∷ before) ≡ step.act ∷ log_of step.role before =
                 rw mine (ap (λ (n : ℕ). step.act ∷ log_of n before) (sym same)) in
                 let now : one_if (has_begun setting frame (step ∷ before))
                 ≡ one_if (nat_lt 0 frame.number && nat_le frame.number
-                (begun_in (receive_phase setting (step.act ∷ log_of step.role before))))
+                (begun_count (receive_phase setting (step.act ∷ log_of step.role before))))
                 = rw known (ap (λ (l : Log).
-                one_if (nat_lt 0 frame.number && nat_le frame.number (begun_in (receive_phase setting l)))) log_now) in
+                one_if (nat_lt 0 frame.number && nat_le frame.number
+                (begun_count (receive_phase setting l)))) log_now) in
                 let was : one_if (has_begun setting frame before)
                 ≡ one_if (nat_lt 0 frame.number && nat_le frame.number
-                (begun_in (receive_phase setting (log_of step.role before))))
+                (begun_count (receive_phase setting (log_of step.role before))))
                 = rw (known, ← same) refl in
                 now
                 ∙ sum
@@ -304,7 +292,7 @@ begun_step setting frame step before numbered blocks =
           rw (foreign, none) (sym (add-zero (one_if (has_begun setting frame before))))
     ]
 
-none_counted : (n : ℕ) → how_many (λ (buf : ℕ). false) (all_below n) ≡ 0
+none_counted : (n : ℕ) → how_many (λ (buf : ℕ). false) (numbers_below n) ≡ 0
 none_counted zero = refl
 none_counted (suc n) = ap (λ (m : ℕ). 0 + m) (none_counted n)
 
@@ -318,7 +306,7 @@ none_begun number = elim (cases_order number 0) [
 -- a frame that has begun has one record or is in one buffer, and no other frame has or is
 pub one_record_or_buffer : (setting : Setting) (frame : FrameId) (past : History)
     → IsNumbered setting → IsLawful setting.layout past → AllOfBlocks setting past
-    → records_of frame past + buffers_with setting frame past ≡ one_if (has_begun setting frame past)
+    → record_count frame past + buffer_count setting frame past ≡ one_if (has_begun setting frame past)
 one_record_or_buffer setting frame [] numbered lawful blocks =
     elim (cases_Bool (nat_lt frame.port.0 setting.layout.ports)) [
       | inl known ↦
@@ -326,7 +314,8 @@ one_record_or_buffer setting frame [] numbered lawful blocks =
       | inr unknown ↦ rw (unknown, none_counted (setting.layout.ports * setting.layout.buffers)) refl
     ]
 one_record_or_buffer setting frame (step ∷ before) numbered lawful blocks =
-    let earlier : records_of frame before + buffers_with setting frame before ≡ one_if (has_begun setting frame before)
+    let earlier : record_count frame before + buffer_count setting frame before
+    ≡ one_if (has_begun setting frame before)
     = one_record_or_buffer setting frame before numbered lawful.1 (blocks_before setting step before blocks) in
     omega (
       arith,
@@ -339,26 +328,26 @@ one_record_or_buffer setting frame (step ∷ before) numbered lawful blocks =
 pub one_record : (setting : Setting) (past : History)
     → IsNumbered setting → IsLawful setting.layout past → AllOfBlocks setting past → AllEnded setting past
     → AllInPool setting past → (port number : ℕ) (e : Entry) → port < setting.layout.ports
-    → frame_after setting port number ≡ Some e
-    → records_of e.frame past ≡ 1
+    → entry_after setting port number ≡ Some e
+    → record_count e.frame past ≡ 1
 one_record setting past numbered lawful blocks ended pooled port number e known found =
     let frame : FrameId = record { port = record { 0 = port }; number = number + 1 } in
     let named : e.frame ≡ frame = numbered port number e found in
-    let total : records_of frame past + buffers_with setting frame past ≡ one_if (has_begun setting frame past) =
+    let total : record_count frame past + buffer_count setting frame past ≡ one_if (has_begun setting frame past) =
     one_record_or_buffer setting frame past numbered lawful blocks in
-    let none : buffers_with setting frame past ≡ 0 =
+    let none : buffer_count setting frame past ≡ 0 =
     same_counts (λ buf. has_frame frame (load setting buf past)) (λ (buf : ℕ). false)
     (setting.layout.ports * setting.layout.buffers)
     (λ buf. ap (has_frame frame) (pool_load setting past buf (pooled buf)))
     ∙ none_counted (setting.layout.ports * setting.layout.buffers) in
-    let within : number < length (of_port port setting.entries) =
-    slice_get_within (of_port port setting.entries) number e found in
+    let within : number < length (entries_of_port port setting.entries) =
+    slice_get_within (entries_of_port port setting.entries) number e found in
     let begun : has_begun setting frame past ≡ true =
     rw (
       lt-ltb port setting.layout.ports known,
       ended port known,
       lt-ltb 0 (number + 1) (omega arith),
-      le-leb (number + 1) (length (of_port port setting.entries)) (omega arith),
+      le-leb (number + 1) (length (entries_of_port port setting.entries)) (omega arith),
     ) refl in
-    let one : records_of frame past ≡ 1 = omega (arith, total, none, ap one_if begun) in
-    ap (λ (f : FrameId). records_of f past) named ∙ one
+    let one : record_count frame past ≡ 1 = omega (arith, total, none, ap one_if begun) in
+    ap (λ (f : FrameId). record_count f past) named ∙ one

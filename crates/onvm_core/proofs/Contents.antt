@@ -8,7 +8,7 @@ use Rattle.onvm_base.specs.declared.ids.RingId.TheVariants.{Lane, Output, Mail}
 use Rattle.onvm_core.specs.declared.layout.Layout.{Layout}
 use Rattle.onvm_core.specs.declared.step.Item.{Item}
 use Rattle.onvm_core.specs.declared.step.Act.{Act}
-use Rattle.onvm_core.specs.declared.step.Act.TheVariants.{Split, Join, Take, Give, Push, Full, Pop, Empty, Look, Post}
+use Rattle.onvm_core.specs.declared.step.Act.TheVariants.{Push, Pop}
 use Rattle.onvm_core.specs.declared.step.Step.{Step}
 use Rattle.onvm_core.specs.Layouts.{same_ring, ring_size}
 use Rattle.onvm_core.specs.History.{History, pushes, pops, pushed_on, popped_from, content_of}
@@ -24,14 +24,11 @@ same_ring_is (Lane f p) (Lane g q) e =
     let one : f.0 ≡ g.0 = eqb-true f.0 g.0 both.0 in
     let two : p ≡ q = eqb-true p q both.1 in
     ap (λ n. Lane (record { 0 = n }) p) one ∙ ap (λ n. Lane g n) two
-same_ring_is (Lane f p) (Output g) e = cc
-same_ring_is (Lane f p) (Mail g) e = cc
-same_ring_is (Output f) (Lane g q) e = cc
 same_ring_is (Output f) (Output g) e = ap (λ n. Output (record { 0 = n })) (eqb-true f.0 g.0 e)
-same_ring_is (Output f) (Mail g) e = cc
-same_ring_is (Mail f) (Lane g q) e = cc
-same_ring_is (Mail f) (Output g) e = cc
+same_ring_is ring (Lane g q) e = cc
+same_ring_is ring (Output g) e = cc
 same_ring_is (Mail f) (Mail g) e = ap (λ n. Mail (record { 0 = n })) (eqb-true f.0 g.0 e)
+same_ring_is ring (Mail g) e = cc
 
 -- the content loses what is popped, and gains what is pushed
 pub content_step : (ring : RingId) (step : Step) (before : History)
@@ -63,15 +60,7 @@ pops_front layout ring before role (Pop r item) allowed =
           (subst (λ s. slice_get (content_of s before) 0 ≡ Some item) same allowed.first))
       | inr unmet ↦ rw unmet refl
     ]
-pops_front layout ring before role (Split a) allowed = refl
-pops_front layout ring before role (Join a) allowed = refl
-pops_front layout ring before role (Take a) allowed = refl
-pops_front layout ring before role (Give a b c) allowed = refl
-pops_front layout ring before role (Push a b) allowed = refl
-pops_front layout ring before role (Full a) allowed = refl
-pops_front layout ring before role (Empty a) allowed = refl
-pops_front layout ring before role (Look a b c) allowed = refl
-pops_front layout ring before role (Post a b) allowed = refl
+pops_front layout ring before role act allowed = refl
 
 -- what was pushed is what was popped and then the content
 pub popped-append-content : (layout : Layout) (ring : RingId) (past : History) → IsLawful layout past
@@ -119,15 +108,7 @@ pushes_room layout ring before role (Push r item) allowed bounded =
           rw met (omega arith)
       | inr unmet ↦ rw unmet (omega arith)
     ]
-pushes_room layout ring before role (Split a) allowed bounded = omega arith
-pushes_room layout ring before role (Join a) allowed bounded = omega arith
-pushes_room layout ring before role (Take a) allowed bounded = omega arith
-pushes_room layout ring before role (Give a b c) allowed bounded = omega arith
-pushes_room layout ring before role (Full a) allowed bounded = omega arith
-pushes_room layout ring before role (Pop a b) allowed bounded = omega arith
-pushes_room layout ring before role (Empty a) allowed bounded = omega arith
-pushes_room layout ring before role (Look a b c) allowed bounded = omega arith
-pushes_room layout ring before role (Post a b) allowed bounded = omega arith
+pushes_room layout ring before role act allowed bounded = omega arith
 
 -- no content is longer than its ring
 pub content_bounded : (layout : Layout) (past : History) → IsLawful layout past → (ring : RingId)

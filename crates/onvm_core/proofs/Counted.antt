@@ -8,16 +8,16 @@ use Rattle.onvm_base.specs.declared.ids.RingId.TheVariants.{Lane, Output, Mail}
 use Rattle.onvm_core.specs.declared.parcel.Parcel.{Parcel}
 use Rattle.onvm_core.specs.declared.step.Item.TheVariants.{Buffer, Number}
 use Rattle.onvm_core.specs.declared.step.Act.{Act}
-use Rattle.onvm_core.specs.declared.step.Act.TheVariants.{Split, Join, Take, Give, Push, Full, Pop, Empty, Look, Post}
+use Rattle.onvm_core.specs.declared.step.Act.TheVariants.{Push, Full, Pop}
 use Rattle.onvm_core.specs.History.{History}
 use Rattle.onvm_core.specs.declared.layout.Layout.{Layout}
 use Rattle.onvm_core.specs.Layouts.{IsLayout, core_role}
 use Rattle.onvm_core.specs.Logs.{Setting, Log, log_of, Hand, push_count}
-use Rattle.onvm_core.specs.Handling.{core_hand, handles, MayHandle}
+use Rattle.onvm_core.specs.Handling.{core_hand, hand_after, MayHandle}
 use Rattle.onvm_core.specs.Blocks.{kind_of, IsOfBlocks}
-use Rattle.onvm_core.specs.Blocks.Kind.{Handles}
-use Rattle.onvm_core.specs.Journals.{journal, journal_of, handlings, last_popped, popped_or}
-use Rattle.onvm_core.specs.Samples.{count_in, is_sampled, sampled_after, since_after, handled_since, mailed_count, lost_count, MaySample, AreSamples}
+use Rattle.onvm_core.specs.Blocks.RoleKind.{Handles}
+use Rattle.onvm_core.specs.Journals.{journal, journal_of, handlings, last_popped_parcel, popped_or}
+use Rattle.onvm_core.specs.Samples.{count_in, is_sampled, sampled_after, unsampled_count_after, unsampled_count, mailed_count, lost_count, MaySample, AreSamples}
 use Rattle.onvm_core.proofs.Hands.{IsKind, is_kind}
 use Rattle.onvm_core.proofs.Lists.{if_met, if_unmet}
 use Rattle.onvm_core.specs.declared.step.Item.{Item}
@@ -26,46 +26,27 @@ use Rattle.onvm_core.specs.declared.step.Item.{Item}
 
 -- the buffer was popped with some parcel
 abbrev WasPopped : ℕ → Log → Type 0
-WasPopped buf log = (was : Parcel) × (last_popped buf log ≡ Some was)
+WasPopped buf log = (was : Parcel) × (last_popped_parcel buf log ≡ Some was)
 
 popped_still : (buf : ℕ) (act : Act) (before : Log) → WasPopped buf before → WasPopped buf (act ∷ before)
 popped_still buf (Pop r (Buffer b parcel)) before h =
     elim (cases_Bool (b.0 == buf)) [ inl met ↦ (parcel, rw met refl) | inr unmet ↦ (h.0, rw unmet h.1) ]
-popped_still buf (Pop r (Number n)) before h = h
-popped_still buf (Split a) before h = h
-popped_still buf (Join a) before h = h
-popped_still buf (Take a) before h = h
-popped_still buf (Give a b c) before h = h
-popped_still buf (Push a b) before h = h
-popped_still buf (Full a) before h = h
-popped_still buf (Empty a) before h = h
-popped_still buf (Look a b c) before h = h
-popped_still buf (Post a b) before h = h
+popped_still buf act before h = h
 
 some_hand : (a b : Hand) → Some a ≡ Some b → a ≡ b
 some_hand a b e = cc
 
 hand_step : (act : Act) (before : Log) (hand : Hand)
-    → handles act (core_hand before) ≡ Some hand → (core_hand before ≡ Some hand → WasPopped hand.buf before)
+    → hand_after act (core_hand before) ≡ Some hand → (core_hand before ≡ Some hand → WasPopped hand.buf before)
     → WasPopped hand.buf (act ∷ before)
 hand_step (Pop (Lane f p) (Buffer b parcel)) before hand e earlier =
     let same : record { function = f; buf = b.0; parcel = parcel } ≡ hand =
     some_hand (record { function = f; buf = b.0; parcel = parcel }) hand e in
     (parcel, rw (eq-eqb b.0 hand.buf (ap (λ (h : Hand). h.buf) same)) refl)
-hand_step (Pop (Lane f p) (Number n)) before hand e earlier = earlier e
 hand_step (Pop (Output f) i) before hand e earlier = popped_still hand.buf (Pop (Output f) i) before (earlier e)
 hand_step (Pop (Mail f) i) before hand e earlier = popped_still hand.buf (Pop (Mail f) i) before (earlier e)
 hand_step (Push (Output f) i) before hand e earlier = absurd (let off : None ≡ Some hand = e in cc)
-hand_step (Push (Lane f p) i) before hand e earlier = earlier e
-hand_step (Push (Mail f) i) before hand e earlier = earlier e
-hand_step (Split a) before hand e earlier = earlier e
-hand_step (Join a) before hand e earlier = earlier e
-hand_step (Take a) before hand e earlier = earlier e
-hand_step (Give a b c) before hand e earlier = earlier e
-hand_step (Full a) before hand e earlier = earlier e
-hand_step (Empty a) before hand e earlier = earlier e
-hand_step (Look a b c) before hand e earlier = earlier e
-hand_step (Post a b) before hand e earlier = earlier e
+hand_step act before hand e earlier = earlier e
 
 -- the buffer of the parcel in hand was popped
 hand_popped : (log : Log) (hand : Hand) → core_hand log ≡ Some hand → WasPopped hand.buf log
@@ -80,14 +61,14 @@ one_handling f g setting role before (Number n) may = absurd may
 one_handling f g setting role before (Buffer b parcel) may =
     let was : WasPopped b.0 before =
     subst (λ (n : ℕ). WasPopped n before) may.same (hand_popped before may.hand may.held) in
-    let found : last_popped b.0 before ≡ Some was.0 = was.1 in
+    let found : last_popped_parcel b.0 before ≡ Some was.0 = was.1 in
     elim (cases_Bool (g.0 == f.0)) [ inl met ↦ rw (met, found) refl | inr unmet ↦ rw unmet refl ]
 
 -- a core pops nothing while it has a parcel in hand
 kept_hand : (setting : Setting) (role : ℕ) (before : Log) (act : Act) (buf : ℕ) (hand : Hand)
-    → MayHandle setting role before act → handles act (core_hand before) ≡ Some hand → hand.buf ≡ buf
-    → (core_hand before ≡ Some hand → last_popped buf before ≡ Some hand.parcel)
-    → popped_or buf act (last_popped buf before) ≡ Some hand.parcel
+    → MayHandle setting role before act → hand_after act (core_hand before) ≡ Some hand → hand.buf ≡ buf
+    → (core_hand before ≡ Some hand → last_popped_parcel buf before ≡ Some hand.parcel)
+    → popped_or buf act (last_popped_parcel buf before) ≡ Some hand.parcel
 kept_hand setting role before (Pop (Lane f p) (Buffer b parcel)) buf hand may e of earlier =
     let same : record { function = f; buf = b.0; parcel = parcel } ≡ hand =
     some_hand (record { function = f; buf = b.0; parcel = parcel }) hand e in
@@ -97,21 +78,12 @@ kept_hand setting role before (Pop (Output f) i) buf hand may e of earlier = abs
 kept_hand setting role before (Pop (Mail f) i) buf hand may e of earlier = absurd may
 kept_hand setting role before (Push (Output f) i) buf hand may e of earlier =
     absurd (let off : None ≡ Some hand = e in cc)
-kept_hand setting role before (Push (Lane f p) i) buf hand may e of earlier = earlier e
-kept_hand setting role before (Push (Mail f) i) buf hand may e of earlier = earlier e
-kept_hand setting role before (Take b) buf hand may e of earlier = earlier e
-kept_hand setting role before (Give b outcome parcel) buf hand may e of earlier = earlier e
-kept_hand setting role before (Split a) buf hand may e of earlier = earlier e
-kept_hand setting role before (Join a) buf hand may e of earlier = earlier e
-kept_hand setting role before (Full r) buf hand may e of earlier = earlier e
-kept_hand setting role before (Empty a) buf hand may e of earlier = earlier e
-kept_hand setting role before (Look w v t) buf hand may e of earlier = earlier e
-kept_hand setting role before (Post a b) buf hand may e of earlier = earlier e
+kept_hand setting role before act buf hand may e of earlier = earlier e
 
 -- the parcel in hand is the one with which its buffer was last popped
 pub popped_in_hand : (setting : Setting) (role : ℕ) (log : Log) (buf : ℕ) (hand : Hand)
     → IsKind setting role Handles log → core_hand log ≡ Some hand → hand.buf ≡ buf
-    → last_popped buf log ≡ Some hand.parcel
+    → last_popped_parcel buf log ≡ Some hand.parcel
 popped_in_hand setting role [] buf hand kind e of = absurd (let off : None ≡ Some hand = e in cc)
 popped_in_hand setting role (act ∷ before) buf hand kind e of =
     kept_hand setting role before act buf hand kind.0 e of
@@ -139,17 +111,7 @@ journal_step f setting role before (Push (Output g) item) kind may e =
           rw unmet refl in
           omega (arith, all, none, e, now)
     ]
-journal_step f setting role before (Take b) kind may e = ap length (append-nil (journal f before)) ∙ e
-journal_step f setting role before (Give b outcome parcel) kind may e = ap length (append-nil (journal f before)) ∙ e
-journal_step f setting role before (Push (Lane g p) i) kind may e = ap length (append-nil (journal f before)) ∙ e
-journal_step f setting role before (Push (Mail g) i) kind may e = ap length (append-nil (journal f before)) ∙ e
-journal_step f setting role before (Pop r i) kind may e = ap length (append-nil (journal f before)) ∙ e
-journal_step f setting role before (Split a) kind may e = ap length (append-nil (journal f before)) ∙ e
-journal_step f setting role before (Join a) kind may e = ap length (append-nil (journal f before)) ∙ e
-journal_step f setting role before (Full r) kind may e = ap length (append-nil (journal f before)) ∙ e
-journal_step f setting role before (Empty a) kind may e = ap length (append-nil (journal f before)) ∙ e
-journal_step f setting role before (Look w v t) kind may e = ap length (append-nil (journal f before)) ∙ e
-journal_step f setting role before (Post a b) kind may e = ap length (append-nil (journal f before)) ∙ e
+journal_step f setting role before act kind may e = ap length (append-nil (journal f before)) ∙ e
 
 pub journal_length : (f : FnId) (setting : Setting) (role : ℕ) (log : Log) → IsKind setting role Handles log
     → length (journal f log) ≡ push_count (Output f) log
@@ -172,7 +134,7 @@ loses : (mailed lost since lost_now since_now : ℕ) → lost_now ≡ since + lo
 loses mailed lost since lost_now since_now a b = omega (arith, a, b)
 
 abbrev Total : FnId → Log → ℕ
-Total f log = mailed_count f log + lost_count f log + handled_since f log
+Total f log = mailed_count f log + lost_count f log + unsampled_count f log
 
 sum_step : (f : FnId) (setting : Setting) (role : ℕ) (act : Act) (before : Log)
     → MayHandle setting role before act → MaySample before act → Total f before ≡ length (journal f before)
@@ -187,13 +149,13 @@ sum_step f setting role (Push (Output g) (Buffer b parcel)) before may samples e
       | inl met ↦
           let one : length (handlings f (Push (Output g) (Buffer b parcel)) before) ≡ 1 =
           more ∙ if_met (g.0 == f.0) 1 0 met in
-          let now : handled_since f (Push (Output g) (Buffer b parcel) ∷ before) ≡ handled_since f before + 1 =
+          let now : unsampled_count f (Push (Output g) (Buffer b parcel) ∷ before) ≡ unsampled_count f before + 1 =
           rw met refl in
           omega (arith, all, one, e, now)
       | inr unmet ↦
           let none : length (handlings f (Push (Output g) (Buffer b parcel)) before) ≡ 0 =
           more ∙ if_unmet (g.0 == f.0) 1 0 unmet in
-          let now : handled_since f (Push (Output g) (Buffer b parcel) ∷ before) ≡ handled_since f before =
+          let now : unsampled_count f (Push (Output g) (Buffer b parcel) ∷ before) ≡ unsampled_count f before =
           rw unmet refl in
           omega (arith, all, none, e, now)
     ]
@@ -204,16 +166,16 @@ sum_step f setting role (Push (Mail g) (Number n)) before may samples e =
     ap length (append-nil (journal f before)) in
     elim (cases_Bool (g.0 == f.0)) [
       | inl met ↦
-          let of : handled_since g before ≡ handled_since f before =
-          ap (λ (h : FnId). handled_since h before) (one_id g f met) in
+          let of : unsampled_count g before ≡ unsampled_count f before =
+          ap (λ (h : FnId). unsampled_count h before) (one_id g f met) in
           let counted : mailed_count f (Push (Mail g) (Number n) ∷ before) ≡ count_in n + mailed_count f before =
           rw met refl in
-          let since : handled_since f (Push (Mail g) (Number n) ∷ before) ≡ 0 = rw met refl in
+          let since : unsampled_count f (Push (Mail g) (Number n) ∷ before) ≡ 0 = rw met refl in
           let lost : lost_count f (Push (Mail g) (Number n) ∷ before) ≡ lost_count f before = refl in
-          let made : count_in n ≡ handled_since g before = samples.0 in
-          mails (mailed_count f before) (lost_count f before) (handled_since f before)
+          let made : count_in n ≡ unsampled_count g before = samples.0 in
+          mails (mailed_count f before) (lost_count f before) (unsampled_count f before)
           (mailed_count f (Push (Mail g) (Number n) ∷ before)) (lost_count f (Push (Mail g) (Number n) ∷ before))
-          (handled_since f (Push (Mail g) (Number n) ∷ before)) (count_in n) counted lost since (made ∙ of)
+          (unsampled_count f (Push (Mail g) (Number n) ∷ before)) (count_in n) counted lost since (made ∙ of)
           ∙ e
           ∙ sym same
       | inr unmet ↦ rw unmet (e ∙ sym same)
@@ -223,11 +185,11 @@ sum_step f setting role (Full (Mail g)) before may samples e =
     ap length (append-nil (journal f before)) in
     elim (cases_Bool (g.0 == f.0)) [
       | inl met ↦
-          let lost : lost_count f (Full (Mail g) ∷ before) ≡ handled_since f before + lost_count f before =
+          let lost : lost_count f (Full (Mail g) ∷ before) ≡ unsampled_count f before + lost_count f before =
           rw met refl in
-          let since : handled_since f (Full (Mail g) ∷ before) ≡ 0 = rw met refl in
-          loses (mailed_count f before) (lost_count f before) (handled_since f before)
-          (lost_count f (Full (Mail g) ∷ before)) (handled_since f (Full (Mail g) ∷ before)) lost since
+          let since : unsampled_count f (Full (Mail g) ∷ before) ≡ 0 = rw met refl in
+          loses (mailed_count f before) (lost_count f before) (unsampled_count f before)
+          (lost_count f (Full (Mail g) ∷ before)) (unsampled_count f (Full (Mail g) ∷ before)) lost since
           ∙ e
           ∙ sym same
       | inr unmet ↦ rw unmet (e ∙ sym same)
@@ -235,14 +197,7 @@ sum_step f setting role (Full (Mail g)) before may samples e =
 sum_step f setting role (Push (Lane g p) i) before may samples e = absurd may
 sum_step f setting role (Full (Lane g p)) before may samples e = absurd may
 sum_step f setting role (Full (Output g)) before may samples e = absurd may
-sum_step f setting role (Split a) before may samples e = e ∙ sym (ap length (append-nil (journal f before)))
-sum_step f setting role (Join a) before may samples e = e ∙ sym (ap length (append-nil (journal f before)))
-sum_step f setting role (Take a) before may samples e = e ∙ sym (ap length (append-nil (journal f before)))
-sum_step f setting role (Give a b c) before may samples e = e ∙ sym (ap length (append-nil (journal f before)))
-sum_step f setting role (Pop a b) before may samples e = e ∙ sym (ap length (append-nil (journal f before)))
-sum_step f setting role (Empty a) before may samples e = e ∙ sym (ap length (append-nil (journal f before)))
-sum_step f setting role (Look a b c) before may samples e = e ∙ sym (ap length (append-nil (journal f before)))
-sum_step f setting role (Post a b) before may samples e = e ∙ sym (ap length (append-nil (journal f before)))
+sum_step f setting role act before may samples e = e ∙ sym (ap length (append-nil (journal f before)))
 
 log_counted : (f : FnId) (setting : Setting) (role : ℕ) (log : Log) → IsKind setting role Handles log → AreSamples log
     → Total f log ≡ length (journal f log)
@@ -279,7 +234,7 @@ samples_count setting past f is known blocks samples =
     (is_kind setting role (log_of role past) Handles (core_handles setting.layout f.0 is known) blocks) samples
 
 since_step : (f : FnId) (act : Act) (was : Bool) (n : ℕ) → (was ≡ true → n ≡ 0) → sampled_after f act was ≡ true
-    → since_after f act n ≡ 0
+    → unsampled_count_after f act n ≡ 0
 since_step f (Push (Output g) item) was n earlier e =
     elim (cases_Bool (g.0 == f.0)) [
       | inl met ↦ absurd (let off : false ≡ true = rw met at e in cc)
@@ -289,21 +244,12 @@ since_step f (Push (Mail g) item) was n earlier e =
     elim (cases_Bool (g.0 == f.0)) [ inl met ↦ rw met refl | inr unmet ↦ rw unmet (earlier (rw unmet at e)) ]
 since_step f (Full (Mail g)) was n earlier e =
     elim (cases_Bool (g.0 == f.0)) [ inl met ↦ rw met refl | inr unmet ↦ rw unmet (earlier (rw unmet at e)) ]
-since_step f (Push (Lane g p) item) was n earlier e = earlier e
-since_step f (Full (Lane g p)) was n earlier e = earlier e
-since_step f (Full (Output g)) was n earlier e = earlier e
-since_step f (Split a) was n earlier e = earlier e
-since_step f (Join a) was n earlier e = earlier e
-since_step f (Take a) was n earlier e = earlier e
-since_step f (Give a b c) was n earlier e = earlier e
-since_step f (Pop a b) was n earlier e = earlier e
-since_step f (Empty a) was n earlier e = earlier e
-since_step f (Look a b c) was n earlier e = earlier e
-since_step f (Post a b) was n earlier e = earlier e
+since_step f act was n earlier e = earlier e
 
-none_since : (f : FnId) (log : Log) → is_sampled f log ≡ true → handled_since f log ≡ 0
+none_since : (f : FnId) (log : Log) → is_sampled f log ≡ true → unsampled_count f log ≡ 0
 none_since f [] e = refl
-none_since f (act ∷ before) e = since_step f act (is_sampled f before) (handled_since f before) (none_since f before) e
+none_since f (act ∷ before) e =
+    since_step f act (is_sampled f before) (unsampled_count f before) (none_since f before) e
 
 without_since : (mailed lost since all : ℕ) → mailed + lost + since ≡ all → since ≡ 0 → mailed + lost ≡ all
 without_since mailed lost since all e none = omega (arith, e, none)
@@ -319,5 +265,5 @@ pub samples_complete : (setting : Setting) (past : History) (f : FnId)
     ≡ length (journal_of setting past f)
 samples_complete setting past f is known blocks samples e =
     let log : Log = log_of (core_role setting.layout f.0) past in
-    without_since (mailed_count f log) (lost_count f log) (handled_since f log) (length (journal_of setting past f))
+    without_since (mailed_count f log) (lost_count f log) (unsampled_count f log) (length (journal_of setting past f))
     (samples_count setting past f is known blocks samples) (none_since f log e)

@@ -19,7 +19,7 @@ use Rattle.onvm_core.specs.Lawful.{IsLawful}
 use Rattle.onvm_core.specs.Logs.{Setting, entry_parcel, log_of}
 use Rattle.onvm_core.specs.Blocks.{AllOfBlocks, IsOfBlocks}
 use Rattle.onvm_core.proofs.Plans.{narrow}
-use Rattle.onvm_core.proofs.Walk.{by}
+use Rattle.onvm_core.proofs.Steps.{◌◂◌, by, splits, takes, gives, enters, finds_full, looks}
 use Rattle.onvm_core.proofs.WalkLogs.{no_bit, at_role}
 
 -- one port, one transmit role, one core with two functions; three buffers, rings of two
@@ -83,83 +83,57 @@ e5 = frame_on 5 0
 abbrev pub setting : Setting
 setting = record { layout = layout; plan = narrow; entries = e1 ∷ e2 ∷ e3 ∷ e4 ∷ e5 ∷ [] }
 
-abbrev h0 : History
-h0 = []
+-- The steps by frames. Each block begins with looks at the post words of both feeders
 
-abbrev h1 : History
-h1 = by 4 (Split 0) ∷ h0
+-- frame 1 enters by the lane to f
+abbrev first : History
+first =
+    by 0 (Push (Lane f 0) (Buffer b0 (entry_parcel e1)))
+    ∷ by 0 (Take b0)
+    ∷ by 0 (Look (PoolWord port 0) 7 None)
+    ∷ by 0 (Look (PostWord 1) 0 None)
+    ∷ by 0 (Look (PostWord 0) 0 None)
+    ∷ by 4 (Split 0)
+    ∷ []
 
-abbrev h2 : History
-h2 = by 0 (Look (PostWord 0) 0 None) ∷ h1
+-- so does frame 2
+abbrev second : History
+second =
+    by 0 (Push (Lane f 0) (Buffer b1 (entry_parcel e2)))
+    ∷ by 0 (Take b1)
+    ∷ by 0 (Look (PoolWord port 0) 6 None)
+    ∷ by 0 (Look (PostWord 1) 0 None)
+    ∷ by 0 (Look (PostWord 0) 0 None)
+    ∷ first
 
-abbrev h3 : History
-h3 = by 0 (Look (PostWord 1) 0 None) ∷ h2
+-- frame 3 finds that lane full, and its buffer goes back
+abbrev third : History
+third =
+    by 0 (Give b2 (RingFull (Lane f 0)) (entry_parcel e3))
+    ∷ by 0 (Full (Lane f 0))
+    ∷ by 0 (Take b2)
+    ∷ by 0 (Look (PoolWord port 0) 4 None)
+    ∷ by 0 (Look (PostWord 1) 0 None)
+    ∷ by 0 (Look (PostWord 0) 0 None)
+    ∷ second
 
-abbrev h4 : History
-h4 = by 0 (Look (PoolWord port 0) 7 None) ∷ h3
+-- frame 4 enters by the lane to g
+abbrev fourth : History
+fourth =
+    by 0 (Push (Lane g 0) (Buffer b2 (entry_parcel e4)))
+    ∷ by 0 (Take b2)
+    ∷ by 0 (Look (PoolWord port 0) 4 None)
+    ∷ by 0 (Look (PostWord 1) 0 None)
+    ∷ by 0 (Look (PostWord 0) 0 None)
+    ∷ third
 
-abbrev h5 : History
-h5 = by 0 (Take b0) ∷ h4
-
-abbrev h6 : History
-h6 = by 0 (Push (Lane f 0) (Buffer b0 (entry_parcel e1))) ∷ h5
-
-abbrev h7 : History
-h7 = by 0 (Look (PostWord 0) 0 None) ∷ h6
-
-abbrev h8 : History
-h8 = by 0 (Look (PostWord 1) 0 None) ∷ h7
-
-abbrev h9 : History
-h9 = by 0 (Look (PoolWord port 0) 6 None) ∷ h8
-
-abbrev h10 : History
-h10 = by 0 (Take b1) ∷ h9
-
-abbrev h11 : History
-h11 = by 0 (Push (Lane f 0) (Buffer b1 (entry_parcel e2))) ∷ h10
-
-abbrev h12 : History
-h12 = by 0 (Look (PostWord 0) 0 None) ∷ h11
-
-abbrev h13 : History
-h13 = by 0 (Look (PostWord 1) 0 None) ∷ h12
-
-abbrev h14 : History
-h14 = by 0 (Look (PoolWord port 0) 4 None) ∷ h13
-
-abbrev h15 : History
-h15 = by 0 (Take b2) ∷ h14
-
-abbrev h16 : History
-h16 = by 0 (Full (Lane f 0)) ∷ h15
-
-abbrev h17 : History
-h17 = by 0 (Give b2 (RingFull (Lane f 0)) (entry_parcel e3)) ∷ h16
-
-abbrev h18 : History
-h18 = by 0 (Look (PostWord 0) 0 None) ∷ h17
-
-abbrev h19 : History
-h19 = by 0 (Look (PostWord 1) 0 None) ∷ h18
-
-abbrev h20 : History
-h20 = by 0 (Look (PoolWord port 0) 4 None) ∷ h19
-
-abbrev h21 : History
-h21 = by 0 (Take b2) ∷ h20
-
-abbrev h22 : History
-h22 = by 0 (Push (Lane g 0) (Buffer b2 (entry_parcel e4))) ∷ h21
-
-abbrev h23 : History
-h23 = by 0 (Look (PostWord 0) 0 None) ∷ h22
-
-abbrev h24 : History
-h24 = by 0 (Look (PostWord 1) 0 None) ∷ h23
-
-abbrev h25 : History
-h25 = by 0 (Look (PoolWord port 0) 0 (Some (record { frame = e5.frame; outcome = PoolEmpty }))) ∷ h24
+-- frame 5 finds the pool empty
+abbrev pub crowd : History
+crowd =
+    by 0 (Look (PoolWord port 0) 0 (Some (record { frame = e5.frame; outcome = PoolEmpty })))
+    ∷ by 0 (Look (PostWord 1) 0 None)
+    ∷ by 0 (Look (PostWord 0) 0 None)
+    ∷ fourth
 
 pub bit_7_0 : IsBitSet 7 0
 bit_7_0 h = let off : 1 ≡ 0 = h in absurd (omega (arith, off))
@@ -182,286 +156,89 @@ lowest_4 zero less h = h refl
 lowest_4 (suc zero) less h = h refl
 lowest_4 (suc (suc k)) less h = absurd (omega (arith, less))
 
-pool_3 : 7 ≡ pool_bits layout h3 0 0
-unfolding pool_bits
-pool_3 = refl
-
-pool_8 : 6 ≡ pool_bits layout h8 0 0
-unfolding pool_bits
-pool_8 = refl
-
-pool_13 : 4 ≡ pool_bits layout h13 0 0
-unfolding pool_bits
-pool_13 = refl
-
-pool_19 : 4 ≡ pool_bits layout h19 0 0
-unfolding pool_bits
-pool_19 = refl
-
-pool_24 : 0 ≡ pool_bits layout h24 0 0
-unfolding pool_bits
-pool_24 = refl
-
-lawful_1 : IsLawful layout h1
-lawful_1 = (record { live = refl; allowed = record { first = refl; below = omega arith; not_live = refl } }, tt)
-
-lawful_2 : IsLawful layout h2
-lawful_2 = (record { live = refl; allowed = record { known = omega arith; true_value = refl; names = tt } }, lawful_1)
-
-lawful_3 : IsLawful layout h3
-lawful_3 = (record { live = refl; allowed = record { known = omega arith; true_value = refl; names = tt } }, lawful_2)
-
-lawful_4 : IsLawful layout h4
-lawful_4 = (
-  record { live = refl; allowed = record { known = (omega arith, omega arith); true_value = pool_3; names = tt } },
-  lawful_3,
-)
-
-lawful_5 : IsLawful layout h5
-lawful_5 = (
-  record {
-    live = refl;
-    allowed = record { known = omega arith; in_pool = refl; own_port = refl; shown = (refl, bit_7_0) };
-  },
-  lawful_4,
-)
-
-lawful_6 : IsLawful layout h6
-lawful_6 = (
-  record {
-    live = refl;
-    allowed = record {
-      known = (omega arith, omega arith);
-      own_end = refl;
-      room = omega arith;
-      suits = (record { known = omega arith; holder = refl }, omega arith);
-    };
-  },
-  lawful_5,
-)
-
-lawful_7 : IsLawful layout h7
-lawful_7 = (record { live = refl; allowed = record { known = omega arith; true_value = refl; names = tt } }, lawful_6)
-
-lawful_8 : IsLawful layout h8
-lawful_8 = (record { live = refl; allowed = record { known = omega arith; true_value = refl; names = tt } }, lawful_7)
-
-lawful_9 : IsLawful layout h9
-lawful_9 = (
-  record { live = refl; allowed = record { known = (omega arith, omega arith); true_value = pool_8; names = tt } },
-  lawful_8,
-)
-
-lawful_10 : IsLawful layout h10
-lawful_10 = (
-  record {
-    live = refl;
-    allowed = record { known = omega arith; in_pool = refl; own_port = refl; shown = (refl, bit_6_1) };
-  },
-  lawful_9,
-)
-
-lawful_11 : IsLawful layout h11
-lawful_11 = (
-  record {
-    live = refl;
-    allowed = record {
-      known = (omega arith, omega arith);
-      own_end = refl;
-      room = omega arith;
-      suits = (record { known = omega arith; holder = refl }, omega arith);
-    };
-  },
-  lawful_10,
-)
-
-lawful_12 : IsLawful layout h12
-lawful_12 = (record { live = refl; allowed = record { known = omega arith; true_value = refl; names = tt } }, lawful_11)
-
-lawful_13 : IsLawful layout h13
-lawful_13 = (record { live = refl; allowed = record { known = omega arith; true_value = refl; names = tt } }, lawful_12)
-
-lawful_14 : IsLawful layout h14
-lawful_14 = (
-  record { live = refl; allowed = record { known = (omega arith, omega arith); true_value = pool_13; names = tt } },
-  lawful_13,
-)
-
-lawful_15 : IsLawful layout h15
-lawful_15 = (
-  record {
-    live = refl;
-    allowed = record { known = omega arith; in_pool = refl; own_port = refl; shown = (refl, bit_4_2) };
-  },
-  lawful_14,
-)
-
-lawful_16 : IsLawful layout h16
-lawful_16 = (
-  record { live = refl; allowed = record { known = (omega arith, omega arith); own_end = refl; full = refl } },
-  lawful_15,
-)
-
-lawful_17 : IsLawful layout h17
-lawful_17 = (
-  record {
-    live = refl;
-    allowed = record { holds = record { known = omega arith; holder = refl }; names = (omega arith, omega arith) };
-  },
-  lawful_16,
-)
-
-lawful_18 : IsLawful layout h18
-lawful_18 = (record { live = refl; allowed = record { known = omega arith; true_value = refl; names = tt } }, lawful_17)
-
-lawful_19 : IsLawful layout h19
-lawful_19 = (record { live = refl; allowed = record { known = omega arith; true_value = refl; names = tt } }, lawful_18)
-
-lawful_20 : IsLawful layout h20
-lawful_20 = (
-  record { live = refl; allowed = record { known = (omega arith, omega arith); true_value = pool_19; names = tt } },
-  lawful_19,
-)
-
-lawful_21 : IsLawful layout h21
-lawful_21 = (
-  record {
-    live = refl;
-    allowed = record { known = omega arith; in_pool = refl; own_port = refl; shown = (refl, bit_4_2) };
-  },
-  lawful_20,
-)
-
-lawful_22 : IsLawful layout h22
-lawful_22 = (
-  record {
-    live = refl;
-    allowed = record {
-      known = (omega arith, omega arith);
-      own_end = refl;
-      room = omega arith;
-      suits = (record { known = omega arith; holder = refl }, omega arith);
-    };
-  },
-  lawful_21,
-)
-
-lawful_23 : IsLawful layout h23
-lawful_23 = (record { live = refl; allowed = record { known = omega arith; true_value = refl; names = tt } }, lawful_22)
-
-lawful_24 : IsLawful layout h24
-lawful_24 = (record { live = refl; allowed = record { known = omega arith; true_value = refl; names = tt } }, lawful_23)
-
-lawful_25 : IsLawful layout h25
-lawful_25 = (
-  record { live = refl; allowed = record { known = (omega arith, omega arith); true_value = pool_24; names = tt } },
-  lawful_24,
-)
-
-abbrev pub crowd : History
-crowd = h25
-
 pub crowd_is_lawful : IsLawful layout crowd
-crowd_is_lawful = lawful_25
+unfolding pool_bits
+crowd_is_lawful =
+    -- frame 5 finds the pool empty
+    looks refl (omega arith, omega arith) refl tt
+    ◂ looks refl (omega arith) refl tt
+    ◂ looks refl (omega arith) refl tt
+    -- frame 4 enters
+    ◂ enters refl (omega arith, omega arith) refl (omega arith) (omega arith) refl (omega arith)
+    ◂ takes refl (omega arith) refl refl (refl, bit_4_2)
+    ◂ looks refl (omega arith, omega arith) refl tt
+    ◂ looks refl (omega arith) refl tt
+    ◂ looks refl (omega arith) refl tt
+    -- frame 3 finds the lane full
+    ◂ gives refl (omega arith) refl (omega arith, omega arith)
+    ◂ finds_full refl (omega arith, omega arith) refl refl
+    ◂ takes refl (omega arith) refl refl (refl, bit_4_2)
+    ◂ looks refl (omega arith, omega arith) refl tt
+    ◂ looks refl (omega arith) refl tt
+    ◂ looks refl (omega arith) refl tt
+    -- frame 2 enters
+    ◂ enters refl (omega arith, omega arith) refl (omega arith) (omega arith) refl (omega arith)
+    ◂ takes refl (omega arith) refl refl (refl, bit_6_1)
+    ◂ looks refl (omega arith, omega arith) refl tt
+    ◂ looks refl (omega arith) refl tt
+    ◂ looks refl (omega arith) refl tt
+    -- frame 1 enters
+    ◂ enters refl (omega arith, omega arith) refl (omega arith) (omega arith) refl (omega arith)
+    ◂ takes refl (omega arith) refl refl (refl, bit_7_0)
+    ◂ looks refl (omega arith, omega arith) refl tt
+    ◂ looks refl (omega arith) refl tt
+    ◂ looks refl (omega arith) refl tt
+    ◂ splits refl refl (omega arith) refl
+    ◂ tt
+
+-- the blocks of the receive role, by frames
+
+first_is : IsOfBlocks setting 0 (log_of 0 first)
+first_is =
+    inr (e1, refl, (refl, refl, record { function = f; cursor = 0; move = refl; lane = refl }))
+    ◂ inr (e1, refl, record { known = omega arith; word = refl; shown = bit_7_0; lowest = lowest_7 })
+    ◂ inr (e1, refl, (refl, λ none. absurd (omega (arith, none))))
+    ◂ inr (e1, refl, (refl, λ k raised. no_bit k raised.bit))
+    ◂ inr (e1, refl, (refl, λ k raised. no_bit k raised.bit))
+    ◂ tt
+
+second_is : IsOfBlocks setting 0 (log_of 0 second)
+second_is =
+    inr (e2, refl, (refl, refl, record { function = f; cursor = 0; move = refl; lane = refl }))
+    ◂ inr (e2, refl, record { known = omega arith; word = refl; shown = bit_6_1; lowest = lowest_6 })
+    ◂ inr (e2, refl, (refl, λ none. absurd (omega (arith, none))))
+    ◂ inr (e2, refl, (refl, λ k raised. no_bit k raised.bit))
+    ◂ inr (e2, refl, (refl, λ k raised. no_bit k raised.bit))
+    ◂ first_is
+
+third_is : IsOfBlocks setting 0 (log_of 0 third)
+third_is =
+    inr (e3, refl, (refl, refl, refl))
+    ◂ inr (e3, refl, record { function = f; cursor = 0; move = refl; lane = refl })
+    ◂ inr (e3, refl, record { known = omega arith; word = refl; shown = bit_4_2; lowest = lowest_4 })
+    ◂ inr (e3, refl, (refl, λ none. absurd (omega (arith, none))))
+    ◂ inr (e3, refl, (refl, λ k raised. no_bit k raised.bit))
+    ◂ inr (e3, refl, (refl, λ k raised. no_bit k raised.bit))
+    ◂ second_is
+
+fourth_is : IsOfBlocks setting 0 (log_of 0 fourth)
+fourth_is =
+    inr (e4, refl, (refl, refl, record { function = g; cursor = 0; move = refl; lane = refl }))
+    ◂ inr (e4, refl, record { known = omega arith; word = refl; shown = bit_4_2; lowest = lowest_4 })
+    ◂ inr (e4, refl, (refl, λ none. absurd (omega (arith, none))))
+    ◂ inr (e4, refl, (refl, λ k raised. no_bit k raised.bit))
+    ◂ inr (e4, refl, (refl, λ k raised. no_bit k raised.bit))
+    ◂ third_is
 
 receive_is : IsOfBlocks setting 0 (log_of 0 crowd)
-receive_is = (
-  inr (e5, refl, (refl, record { none = refl; last = omega arith; told_is = refl })),
-  (
-    inr (e5, refl, (refl, λ k raised. no_bit k raised.bit)),
-    (
-      inr (e5, refl, (refl, λ k raised. no_bit k raised.bit)),
-      (
-        inr (e4, refl, (refl, refl, record { function = g; cursor = 0; move = refl; lane = refl })),
-        (
-          inr (e4, refl, record { known = omega arith; word = refl; shown = bit_4_2; lowest = lowest_4 }),
-          (
-            inr (e4, refl, (refl, λ none. absurd (omega (arith, none)))),
-            (
-              inr (e4, refl, (refl, λ k raised. no_bit k raised.bit)),
-              (
-                inr (e4, refl, (refl, λ k raised. no_bit k raised.bit)),
-                (
-                  inr (e3, refl, (refl, refl, refl)),
-                  (
-                    inr (e3, refl, record { function = f; cursor = 0; move = refl; lane = refl }),
-                    (
-                      inr (e3, refl, record { known = omega arith; word = refl; shown = bit_4_2; lowest = lowest_4 }),
-                      (
-                        inr (e3, refl, (refl, λ none. absurd (omega (arith, none)))),
-                        (
-                          inr (e3, refl, (refl, λ k raised. no_bit k raised.bit)),
-                          (
-                            inr (e3, refl, (refl, λ k raised. no_bit k raised.bit)),
-                            (
-                              inr (
-                                e2,
-                                refl,
-                                (refl, refl, record { function = f; cursor = 0; move = refl; lane = refl }),
-                              ),
-                              (
-                                inr (
-                                  e2,
-                                  refl,
-                                  record { known = omega arith; word = refl; shown = bit_6_1; lowest = lowest_6 },
-                                ),
-                                (
-                                  inr (e2, refl, (refl, λ none. absurd (omega (arith, none)))),
-                                  (
-                                    inr (e2, refl, (refl, λ k raised. no_bit k raised.bit)),
-                                    (
-                                      inr (e2, refl, (refl, λ k raised. no_bit k raised.bit)),
-                                      (
-                                        inr (
-                                          e1,
-                                          refl,
-                                          (refl, refl, record { function = f; cursor = 0; move = refl; lane = refl }),
-                                        ),
-                                        (
-                                          inr (
-                                            e1,
-                                            refl,
-                                            record {
-                                              known = omega arith;
-                                              word = refl;
-                                              shown = bit_7_0;
-                                              lowest = lowest_7;
-                                            },
-                                          ),
-                                          (
-                                            inr (e1, refl, (refl, λ none. absurd (omega (arith, none)))),
-                                            (
-                                              inr (e1, refl, (refl, λ k raised. no_bit k raised.bit)),
-                                              (
-                                                inr (e1, refl, (refl, λ k raised. no_bit k raised.bit)),
-                                                tt,
-                                              ),
-                                            ),
-                                          ),
-                                        ),
-                                      ),
-                                    ),
-                                  ),
-                                ),
-                              ),
-                            ),
-                          ),
-                        ),
-                      ),
-                    ),
-                  ),
-                ),
-              ),
-            ),
-          ),
-        ),
-      ),
-    ),
-  ),
-)
+receive_is =
+    inr (e5, refl, (refl, record { none = refl; last = omega arith; told_is = refl }))
+    ◂ inr (e5, refl, (refl, λ k raised. no_bit k raised.bit))
+    ◂ inr (e5, refl, (refl, λ k raised. no_bit k raised.bit))
+    ◂ fourth_is
 
 lead_is : IsOfBlocks setting 4 (log_of 4 crowd)
-lead_is = (tt, tt)
+lead_is = tt ◂ tt
 
 pub crowd_follows : AllOfBlocks setting crowd
 crowd_follows role =

@@ -3,7 +3,7 @@ use Rattle.std.proofs.Common.{◌≡◌, ℕ, inl, inr, [], ◌∷◌, ◌++◌,
 use Rattle.std.specs.Prelude.{◌==◌}
 use Rattle.std.proofs.lemmas.Bool.{cases_Bool}
 use Rattle.onvm_base.specs.declared.ids.RingId.{RingId}
-use Rattle.onvm_base.specs.declared.ids.RingId.TheVariants.{Lane, Output, Mail}
+use Rattle.onvm_base.specs.declared.ids.RingId.TheVariants.{Lane, Output}
 use Rattle.onvm_base.specs.declared.ids.BufId.{BufId}
 use Rattle.onvm_base.specs.declared.ids.FnId.{FnId}
 use Rattle.onvm_base.specs.declared.moves.Move.TheVariants.{End}
@@ -16,19 +16,19 @@ use Rattle.onvm_core.specs.declared.parcel.Crumb.{Crumb}
 use Rattle.onvm_core.specs.declared.step.Item.{Item}
 use Rattle.onvm_core.specs.declared.step.Item.TheVariants.{Buffer, Number}
 use Rattle.onvm_core.specs.declared.step.Act.{Act}
-use Rattle.onvm_core.specs.declared.step.Act.TheVariants.{Split, Join, Take, Give, Push, Full, Pop, Empty, Look, Post}
+use Rattle.onvm_core.specs.declared.step.Act.TheVariants.{Split, Give, Push, Full, Pop}
 use Rattle.onvm_core.specs.declared.step.Step.{Step}
 use Rattle.onvm_core.specs.History.{History, pushes, pops, content_of}
 use Rattle.onvm_core.specs.Layouts.{same_ring}
 use Rattle.onvm_core.specs.Lawful.{AllowsAct, IsLawful}
 use Rattle.onvm_core.specs.Logs.{IsHandled, Setting, Log, Hand, log_of, last_crumb}
 use Rattle.onvm_core.specs.Receiving.{ReceivePhase, receive_phase, MayReceiveFor}
-use Rattle.onvm_core.specs.Receiving.ReceivePhase.{Between, Asks, Seeks, Sees, Took, Barred}
+use Rattle.onvm_core.specs.Receiving.ReceivePhase.{Took, Barred}
 use Rattle.onvm_core.specs.Handling.{MayHandle, crumb_place}
 use Rattle.onvm_core.specs.Sending.{SendPhase, send_after, send_phase, MaySend, IsNext}
 use Rattle.onvm_core.specs.Sending.SendPhase.{Free, Moves as Sending, TurnsBack}
-use Rattle.onvm_core.specs.Blocks.{Kind, kind_of, MayFollow, AllOfBlocks}
-use Rattle.onvm_core.specs.Blocks.Kind.{Receives, Sends, Handles, Ticks, Leads}
+use Rattle.onvm_core.specs.Blocks.{RoleKind, kind_of, MayFollow, AllOfBlocks}
+use Rattle.onvm_core.specs.Blocks.RoleKind.{Receives, Sends, Handles}
 use Rattle.onvm_core.specs.Earned.{IsDropped}
 use Rattle.onvm_core.proofs.Contents.{same_ring_is, content_moves}
 use Rattle.onvm_core.proofs.Balance.{blocks_before}
@@ -43,8 +43,7 @@ HasLast f parcel = (crumb : Crumb) × (last_crumb parcel.trail ≡ Some crumb) �
 abbrev pub WasHandled : RingId → Item → Type 0
 WasHandled (Output f) (Buffer b parcel) = HasLast f parcel
 WasHandled (Output f) (Number n) = Unit {0}
-WasHandled (Lane f feeder) item = Unit {0}
-WasHandled (Mail f) item = Unit {0}
+WasHandled ring item = Unit {0}
 
 handled_last : (f : FnId) (place : ℕ) (was parcel : Parcel) → IsHandled f place was parcel → HasLast f parcel
 handled_last f place was parcel handled =
@@ -57,23 +56,18 @@ lane_handled ring f feeder item is = subst (λ (r : RingId). WasHandled r item) 
 receive_handled : (setting : Setting) (port : ℕ) (e : Entry) (phase : ReceivePhase) (ring : RingId) (item : Item)
     → MayReceiveFor setting port e phase (Push ring item)
     → WasHandled ring item
-receive_handled setting port e (Between done) ring item may = absurd may
-receive_handled setting port e (Asks done k) ring item may = absurd may
-receive_handled setting port e (Seeks done k) ring item may = absurd may
-receive_handled setting port e (Sees done index seen) ring item may = absurd may
 receive_handled setting port e (Took done buf) ring (Buffer b parcel) may =
     lane_handled ring may.2.function port (Buffer b parcel) may.2.lane
 receive_handled setting port e (Took done buf) ring (Number n) may = absurd may
-receive_handled setting port e (Barred done buf full) ring item may = absurd may
+receive_handled setting port e phase ring item may = absurd may
 
 send_handled : (setting : Setting) (feeder : ℕ) (phase : SendPhase) (ring : RingId) (item : Item)
     → MaySend setting feeder phase (Push ring item)
     → WasHandled ring item
-send_handled setting feeder Free ring item may = absurd may
 send_handled setting feeder (Sending hand) ring (Buffer b parcel) may =
     lane_handled ring may.1.1.function feeder (Buffer b parcel) may.1.1.lane
 send_handled setting feeder (Sending hand) ring (Number n) may = absurd may
-send_handled setting feeder (TurnsBack hand full) ring item may = absurd may
+send_handled setting feeder phase ring item may = absurd may
 
 core_handled : (setting : Setting) (role : ℕ) (log : Log) (ring : RingId) (item : Item)
     → MayHandle setting role log (Push ring item)
@@ -81,11 +75,10 @@ core_handled : (setting : Setting) (role : ℕ) (log : Log) (ring : RingId) (ite
 core_handled setting role log (Output f) (Buffer b parcel) may =
     handled_last f (crumb_place f log) may.hand.parcel parcel may.handled
 core_handled setting role log (Output f) (Number n) may = tt
-core_handled setting role log (Lane f p) item may = tt
-core_handled setting role log (Mail f) item may = tt
+core_handled setting role log ring item may = tt
 
 -- what is pushed on an output ring was handled by its function
-push_handled : (setting : Setting) (role : ℕ) (kind : Kind) (log : Log) (ring : RingId) (item : Item)
+push_handled : (setting : Setting) (role : ℕ) (kind : RoleKind) (log : Log) (ring : RingId) (item : Item)
     → MayFollow setting role kind log (Push ring item)
     → WasHandled ring item
 push_handled setting role Receives log ring item may =
@@ -95,10 +88,9 @@ push_handled setting role Receives log ring item may =
     ]
 push_handled setting role Sends log ring item may = send_handled setting role (send_phase log) ring item may
 push_handled setting role Handles log ring item may = core_handled setting role log ring item may
-push_handled setting role Ticks log ring item may = absurd may
-push_handled setting role Leads log ring item may = absurd may
+push_handled setting role kind log ring item may = absurd may
 
-pushes_handled : (setting : Setting) (role : ℕ) (kind : Kind) (log : Log) (ring : RingId) (act : Act)
+pushes_handled : (setting : Setting) (role : ℕ) (kind : RoleKind) (log : Log) (ring : RingId) (act : Act)
     → MayFollow setting role kind log act
     → Each (WasHandled ring) (pushes ring act)
 pushes_handled setting role kind log ring (Push r item) may =
@@ -110,15 +102,7 @@ pushes_handled setting role kind log ring (Push r item) may =
           rw met (handled, tt)
       | inr unmet ↦ rw unmet tt
     ]
-pushes_handled setting role kind log ring (Split a) may = tt
-pushes_handled setting role kind log ring (Join a) may = tt
-pushes_handled setting role kind log ring (Take a) may = tt
-pushes_handled setting role kind log ring (Give a b c) may = tt
-pushes_handled setting role kind log ring (Full a) may = tt
-pushes_handled setting role kind log ring (Pop a b) may = tt
-pushes_handled setting role kind log ring (Empty a) may = tt
-pushes_handled setting role kind log ring (Look a b c) may = tt
-pushes_handled setting role kind log ring (Post a b) may = tt
+pushes_handled setting role kind log ring act may = tt
 
 content_handled : (setting : Setting) (past : History)
     → IsLawful setting.layout past → AllOfBlocks setting past → (ring : RingId)
@@ -144,39 +128,13 @@ moves_step : (phase : SendPhase) (act : Act)
     → MovesHandled phase
     → ((f : FnId) (b : BufId) (parcel : Parcel) → act ≡ Pop (Output f) (Buffer b parcel) → HasLast f parcel)
     → MovesHandled (send_after phase act)
-moves_step Free (Split a) h popped = tt
-moves_step Free (Join a) h popped = tt
-moves_step Free (Take a) h popped = tt
-moves_step Free (Give a b c) h popped = tt
-moves_step Free (Push a b) h popped = tt
-moves_step Free (Full a) h popped = tt
 moves_step Free (Pop (Output f) (Buffer b parcel)) h popped = popped f b parcel refl
-moves_step Free (Pop (Output f) (Number n)) h popped = tt
-moves_step Free (Pop (Lane f p) item) h popped = tt
-moves_step Free (Pop (Mail f) item) h popped = tt
-moves_step Free (Empty a) h popped = tt
-moves_step Free (Look a b c) h popped = tt
-moves_step Free (Post a b) h popped = tt
-moves_step (Sending hand) (Split a) h popped = h
-moves_step (Sending hand) (Join a) h popped = h
-moves_step (Sending hand) (Take a) h popped = h
 moves_step (Sending hand) (Give a b c) h popped = tt
 moves_step (Sending hand) (Push a b) h popped = tt
 moves_step (Sending hand) (Full a) h popped = tt
-moves_step (Sending hand) (Pop a b) h popped = h
-moves_step (Sending hand) (Empty a) h popped = h
-moves_step (Sending hand) (Look a b c) h popped = h
-moves_step (Sending hand) (Post a b) h popped = h
+moves_step (Sending hand) act h popped = h
 moves_step (TurnsBack hand ring) (Split a) h popped = tt
-moves_step (TurnsBack hand ring) (Join a) h popped = tt
-moves_step (TurnsBack hand ring) (Take a) h popped = tt
-moves_step (TurnsBack hand ring) (Give a b c) h popped = tt
-moves_step (TurnsBack hand ring) (Push a b) h popped = tt
-moves_step (TurnsBack hand ring) (Full a) h popped = tt
-moves_step (TurnsBack hand ring) (Pop a b) h popped = tt
-moves_step (TurnsBack hand ring) (Empty a) h popped = tt
-moves_step (TurnsBack hand ring) (Look a b c) h popped = tt
-moves_step (TurnsBack hand ring) (Post a b) h popped = tt
+moves_step phase act h popped = tt
 
 popped_handled : (setting : Setting) (step : Step) (before : History)
     → IsLawful setting.layout (step ∷ before) → AllOfBlocks setting before → (f : FnId) (b : BufId) (parcel : Parcel)
@@ -213,13 +171,9 @@ dropped_hand setting hand f why parcel last next of is =
 receive_undropped : (setting : Setting) (port : ℕ) (e : Entry) (phase : ReceivePhase) (b : BufId) (f : FnId)
     (why : Why) (parcel : Parcel) → MayReceiveFor setting port e phase (Give b (Dropped f why) parcel)
     → ⊥
-receive_undropped setting port e (Between done) b f why parcel may = may
-receive_undropped setting port e (Asks done k) b f why parcel may = may
-receive_undropped setting port e (Seeks done k) b f why parcel may = may
-receive_undropped setting port e (Sees done index seen) b f why parcel may = may
-receive_undropped setting port e (Took done buf) b f why parcel may = may
 receive_undropped setting port e (Barred done buf r) b f why parcel may =
     let off : ◌≡◌ {A = Outcome} (Dropped f why) (RingFull r) = may.1 in cc
+receive_undropped setting port e phase b f why parcel may = may
 
 send_dropped : (setting : Setting) (feeder : ℕ) (phase : SendPhase) (b : BufId) (f : FnId) (why : Why) (parcel : Parcel)
     → MovesHandled phase → MaySend setting feeder phase (Give b (Dropped f why) parcel)
@@ -230,7 +184,7 @@ send_dropped setting feeder (Sending hand) b f why parcel h may =
 send_dropped setting feeder (TurnsBack hand r) b f why parcel h may =
     absurd (let off : ◌≡◌ {A = Outcome} (Dropped f why) (RingFull r) = may.1 in cc)
 
-kind_dropped : (setting : Setting) (role : ℕ) (kind : Kind) (log : Log) (b : BufId) (f : FnId) (why : Why)
+kind_dropped : (setting : Setting) (role : ℕ) (kind : RoleKind) (log : Log) (b : BufId) (f : FnId) (why : Why)
     (parcel : Parcel) → MovesHandled (send_phase log) → MayFollow setting role kind log (Give b (Dropped f why) parcel)
     → IsDropped setting parcel f why
 kind_dropped setting role Receives log b f why parcel h may =
@@ -240,9 +194,7 @@ kind_dropped setting role Receives log b f why parcel h may =
     ]
 kind_dropped setting role Sends log b f why parcel h may =
     send_dropped setting role (send_phase log) b f why parcel h may
-kind_dropped setting role Handles log b f why parcel h may = absurd may
-kind_dropped setting role Ticks log b f why parcel h may = absurd may
-kind_dropped setting role Leads log b f why parcel h may = absurd may
+kind_dropped setting role kind log b f why parcel h may = absurd may
 
 -- each drop is the move's
 pub is_dropped : (setting : Setting) (step : Step) (before : History) (b : BufId) (f : FnId) (why : Why)

@@ -1,9 +1,9 @@
 -- Each overflow is earned, and each drop and send is the move's.
-use Rattle.std.proofs.Common.{◌≡◌, ℕ, ◌+◌, zero, suc, add-one, ◌⊎◌, inl, inr, List, [], ◌∷◌, refl, sym, ◌∙◌, ap, subst, Option, Some, None}
+use Rattle.std.proofs.Common.{◌≡◌, ℕ, zero, suc, ◌⊎◌, inl, inr, List, [], ◌∷◌, refl, sym, ◌∙◌, ap, subst, Option, Some, None}
 use Rattle.std.specs.Prelude.{slice_get, ◌==◌, ◌^◌, ◌/◌}
 use Rattle.std.proofs.lemmas.Bool.{cases_Bool, eqb-true}
 use Rattle.onvm_base.specs.declared.ids.RingId.{RingId}
-use Rattle.onvm_base.specs.declared.ids.RingId.TheVariants.{Lane, Output, Mail}
+use Rattle.onvm_base.specs.declared.ids.RingId.TheVariants.{Lane}
 use Rattle.onvm_base.specs.declared.ids.BufId.{BufId}
 use Rattle.onvm_base.specs.declared.ids.FnId.{FnId}
 use Rattle.onvm_base.specs.declared.moves.Move.TheVariants.{Leave}
@@ -13,206 +13,25 @@ use Rattle.onvm_base.specs.declared.outcome.Outcome.TheVariants.{Sent, Dropped, 
 use Rattle.onvm_base.specs.Moves.{enter}
 use Rattle.onvm_core.specs.declared.entry.Entry.{Entry}
 use Rattle.onvm_core.specs.declared.layout.Word.{Word}
-use Rattle.onvm_core.specs.declared.layout.Word.TheVariants.{Pool as PoolWord, Cell, Post as PostWord, Weight}
+use Rattle.onvm_core.specs.declared.layout.Word.TheVariants.{Pool as PoolWord, Cell, Post as PostWord}
 use Rattle.onvm_core.specs.declared.parcel.Parcel.{Parcel}
-use Rattle.onvm_core.specs.declared.step.Item.TheVariants.{Buffer, Number}
 use Rattle.onvm_core.specs.declared.step.Act.{Act}
-use Rattle.onvm_core.specs.declared.step.Act.TheVariants.{Split, Join, Take, Give, Push, Full, Pop, Empty, Look, Post}
+use Rattle.onvm_core.specs.declared.step.Act.TheVariants.{Give, Look}
 use Rattle.onvm_core.specs.declared.step.Step.{Step}
 use Rattle.onvm_core.specs.History.{History}
-use Rattle.onvm_core.specs.Records.{recorded}
-use Rattle.onvm_core.specs.Logs.{Setting, Log, log_of, of_port, feeders, frame_after, entry_parcel}
-use Rattle.onvm_core.specs.Receiving.{ReceivePhase, asked, sought, receive_after, receive_phase, done_in, IsBetween, IsMark, MaySeek, IsLost, IsHeld, EntersBy, MayReceiveFor}
-use Rattle.onvm_core.specs.Receiving.ReceivePhase.{Between, Asks, Seeks, Sees, Took, Barred}
-use Rattle.onvm_core.specs.Sending.{SendPhase, send_after, send_phase, MaySend, GoesBy, IsNext}
+use Rattle.onvm_core.specs.Records.{records_of_act}
+use Rattle.onvm_core.specs.Logs.{Setting, Log, log_of, entries_of_port, entry_after, entry_parcel}
+use Rattle.onvm_core.specs.Receiving.{ReceivePhase, receive_phase, done_count, IsMarkAct, IsPoolEmptyRecord, IsThrottleRecord, MayReceiveFor}
+use Rattle.onvm_core.specs.Receiving.ReceivePhase.{Between, Asks, Seeks, Took, Barred}
+use Rattle.onvm_core.specs.Sending.{SendPhase, send_phase, MaySend, IsNext}
 use Rattle.onvm_core.specs.Sending.SendPhase.{Free, Moves as Sending, TurnsBack}
-use Rattle.onvm_core.specs.Blocks.{Kind, kind_of, MayFollow, IsOfBlocks, AllOfBlocks}
-use Rattle.onvm_core.specs.Blocks.Kind.{Receives, Sends, Handles, Ticks, Leads}
+use Rattle.onvm_core.specs.Blocks.{RoleKind, kind_of, MayFollow, IsOfBlocks, AllOfBlocks}
+use Rattle.onvm_core.specs.Blocks.RoleKind.{Receives, Sends, Handles, Ticks, Leads}
 use Rattle.onvm_core.specs.Earned.{EndsWithLooks, IsEarnedEmpty, IsEarnedFull, IsSent, MayRecord}
 use Rattle.onvm_core.proofs.Hands.{IsKind, is_kind}
 use Rattle.onvm_core.proofs.Balance.{own_blocks}
 use Rattle.onvm_core.proofs.Loads.{Each}
-
--- What the log of a receive role ends with: the looks at the part's words, or the ring that was found full
-
-abbrev pub EndsSo : ℕ → Log → ReceivePhase → Type 0
-EndsSo port log (Seeks done k) = EndsWithLooks port k log
-EndsSo port log (Barred done buf ring) = IsEarnedFull log ring
-EndsSo port log (Between done) = Unit {0}
-EndsSo port log (Asks done k) = Unit {0}
-EndsSo port log (Sees done index seen) = Unit {0}
-EndsSo port log (Took done buf) = Unit {0}
-
-asked_so : (setting : Setting) (port done k : ℕ) (told : Option Record) (log : Log)
-    → EndsSo port log (asked setting done k told)
-asked_so setting port done k None log =
-    elim (cases_Bool (k + 1 == feeders setting)) [ inl met ↦ rw met tt | inr unmet ↦ rw unmet tt ]
-asked_so setting port done k (Some told) log = tt
-
-sought_so : (setting : Setting) (port done k seen : ℕ) (word : Word) (e : Entry) (told : Option Record) (before : Log)
-    → MaySeek setting port e k word seen told → EndsWithLooks port k before
-    → EndsSo port (Look word seen told ∷ before) (sought done k seen told)
-sought_so setting port done k seen word e None before may h =
-    elim (cases_Bool (seen == 0)) [
-      | inl met ↦ let word_is : word ≡ PoolWord (record { 0 = port }) k = may.0 in
-          let zero_is : seen ≡ 0 = eqb-true seen 0 met in
-          let look : Look word seen None ≡ Look (PoolWord (record { 0 = port }) k) 0 None =
-          ap (λ (w : Word). Look w seen None) word_is
-          ∙ ap (λ (n : ℕ). Look (PoolWord (record { 0 = port }) k) n None) zero_is in
-          rw (met, add-one) (look, h)
-      | inr unmet ↦ rw unmet tt
-    ]
-sought_so setting port done k seen word e (Some told) before may h = tt
-
-between_so : (setting : Setting) (port done : ℕ) (act : Act) (log : Log)
-    → EndsSo port log (receive_after setting (Between done) act)
-between_so setting port done (Split a) log = tt
-between_so setting port done (Join a) log = tt
-between_so setting port done (Take a) log = tt
-between_so setting port done (Give a b c) log = tt
-between_so setting port done (Push a b) log = tt
-between_so setting port done (Full a) log = tt
-between_so setting port done (Pop a b) log = tt
-between_so setting port done (Empty a) log = tt
-between_so setting port done (Look (PostWord f) seen told) log = asked_so setting port done 0 told log
-between_so setting port done (Look (PoolWord a b) seen told) log = tt
-between_so setting port done (Look (Cell a b) seen told) log = tt
-between_so setting port done (Look (Weight a) seen told) log = tt
-between_so setting port done (Post a b) log = tt
-
-entered_full : (setting : Setting) (port : ℕ) (e : Entry) (ring : RingId) (before : Log) → EntersBy setting port e ring
-    → IsEarnedFull (Full ring ∷ before) ring
-entered_full setting port e ring before enters =
-    record { function = enters.function; feeder = port; lane = enters.lane; before = before; full = refl }
-
-receive_so : (setting : Setting) (port : ℕ) (e : Entry) (phase : ReceivePhase) (act : Act) (before : Log)
-    → EndsSo port before phase → MayReceiveFor setting port e phase act
-    → EndsSo port (act ∷ before) (receive_after setting phase act)
-receive_so setting port e (Between done) act before h may = between_so setting port done act (act ∷ before)
-receive_so setting port e (Asks done k) (Split a) before h may = absurd may
-receive_so setting port e (Asks done k) (Join a) before h may = absurd may
-receive_so setting port e (Asks done k) (Take a) before h may = absurd may
-receive_so setting port e (Asks done k) (Give a b c) before h may = absurd may
-receive_so setting port e (Asks done k) (Push a b) before h may = absurd may
-receive_so setting port e (Asks done k) (Full a) before h may = absurd may
-receive_so setting port e (Asks done k) (Pop a b) before h may = absurd may
-receive_so setting port e (Asks done k) (Empty a) before h may = absurd may
-receive_so setting port e (Asks done k) (Look a b c) before h may = asked_so setting port done k c (Look a b c ∷ before)
-receive_so setting port e (Asks done k) (Post a b) before h may = absurd may
-receive_so setting port e (Seeks done k) (Split a) before h may = absurd may
-receive_so setting port e (Seeks done k) (Join a) before h may = absurd may
-receive_so setting port e (Seeks done k) (Take a) before h may = absurd may
-receive_so setting port e (Seeks done k) (Give a b c) before h may = absurd may
-receive_so setting port e (Seeks done k) (Push a b) before h may = absurd may
-receive_so setting port e (Seeks done k) (Full a) before h may = absurd may
-receive_so setting port e (Seeks done k) (Pop a b) before h may = absurd may
-receive_so setting port e (Seeks done k) (Empty a) before h may = absurd may
-receive_so setting port e (Seeks done k) (Look a b c) before h may = sought_so setting port done k b a e c before may h
-receive_so setting port e (Seeks done k) (Post a b) before h may = absurd may
-receive_so setting port e (Sees done index seen) (Split a) before h may = absurd may
-receive_so setting port e (Sees done index seen) (Join a) before h may = absurd may
-receive_so setting port e (Sees done index seen) (Take a) before h may = tt
-receive_so setting port e (Sees done index seen) (Give a b c) before h may = absurd may
-receive_so setting port e (Sees done index seen) (Push a b) before h may = absurd may
-receive_so setting port e (Sees done index seen) (Full a) before h may = absurd may
-receive_so setting port e (Sees done index seen) (Pop a b) before h may = absurd may
-receive_so setting port e (Sees done index seen) (Empty a) before h may = absurd may
-receive_so setting port e (Sees done index seen) (Look a b c) before h may = absurd may
-receive_so setting port e (Sees done index seen) (Post a b) before h may = absurd may
-receive_so setting port e (Took done buf) (Split a) before h may = absurd may
-receive_so setting port e (Took done buf) (Join a) before h may = absurd may
-receive_so setting port e (Took done buf) (Take a) before h may = absurd may
-receive_so setting port e (Took done buf) (Give a b c) before h may = tt
-receive_so setting port e (Took done buf) (Push a b) before h may = tt
-receive_so setting port e (Took done buf) (Full a) before h may = entered_full setting port e a before may
-receive_so setting port e (Took done buf) (Pop a b) before h may = absurd may
-receive_so setting port e (Took done buf) (Empty a) before h may = absurd may
-receive_so setting port e (Took done buf) (Look a b c) before h may = absurd may
-receive_so setting port e (Took done buf) (Post a b) before h may = absurd may
-receive_so setting port e (Barred done buf ring) (Split a) before h may = absurd may
-receive_so setting port e (Barred done buf ring) (Join a) before h may = absurd may
-receive_so setting port e (Barred done buf ring) (Take a) before h may = absurd may
-receive_so setting port e (Barred done buf ring) (Give a b c) before h may = tt
-receive_so setting port e (Barred done buf ring) (Push a b) before h may = absurd may
-receive_so setting port e (Barred done buf ring) (Full a) before h may = absurd may
-receive_so setting port e (Barred done buf ring) (Pop a b) before h may = absurd may
-receive_so setting port e (Barred done buf ring) (Empty a) before h may = absurd may
-receive_so setting port e (Barred done buf ring) (Look a b c) before h may = absurd may
-receive_so setting port e (Barred done buf ring) (Post a b) before h may = absurd may
-
-mark_so : (setting : Setting) (port : ℕ) (phase : ReceivePhase) (act : Act) (log : Log) → IsBetween phase
-    → EndsSo port log (receive_after setting phase act)
-mark_so setting port (Between done) act log h = between_so setting port done act log
-mark_so setting port (Asks done k) act log h = absurd h
-mark_so setting port (Seeks done k) act log h = absurd h
-mark_so setting port (Sees done index seen) act log h = absurd h
-mark_so setting port (Took done buf) act log h = absurd h
-mark_so setting port (Barred done buf ring) act log h = absurd h
-
-pub receive_ends : (setting : Setting) (port : ℕ) (log : Log) → IsKind setting port Receives log
-    → EndsSo port log (receive_phase setting log)
-receive_ends setting port [] kind = tt
-receive_ends setting port (act ∷ before) kind =
-    elim kind.0 [
-      | inl mark ↦ mark_so setting port (receive_phase setting before) act (act ∷ before) mark.0
-      | inr block ↦
-          receive_so setting port block.0 (receive_phase setting before) act before
-          (receive_ends setting port before kind.1) block.2
-    ]
-
--- What the log of a transmit role ends with: the ring that was found full
-
-abbrev SendsSo : Log → SendPhase → Type 0
-SendsSo log (TurnsBack hand ring) = IsEarnedFull log ring
-SendsSo log Free = Unit {0}
-SendsSo log (Sending hand) = Unit {0}
-
-goes_full : (setting : Setting) (feeder cursor : ℕ) (parcel : Parcel) (ring : RingId) (before : Log)
-    → GoesBy setting feeder parcel cursor ring
-    → IsEarnedFull (Full ring ∷ before) ring
-goes_full setting feeder cursor parcel ring before goes =
-    record { function = goes.function; feeder = feeder; lane = goes.lane; before = before; full = refl }
-
-send_so : (setting : Setting) (feeder : ℕ) (phase : SendPhase) (act : Act) (before : Log)
-    → MaySend setting feeder phase act
-    → SendsSo (act ∷ before) (send_after phase act)
-send_so setting feeder Free (Split a) before may = tt
-send_so setting feeder Free (Join a) before may = tt
-send_so setting feeder Free (Take a) before may = tt
-send_so setting feeder Free (Give a b c) before may = tt
-send_so setting feeder Free (Push a b) before may = tt
-send_so setting feeder Free (Full a) before may = tt
-send_so setting feeder Free (Pop (Output f) (Buffer b parcel)) before may = tt
-send_so setting feeder Free (Pop (Output f) (Number n)) before may = tt
-send_so setting feeder Free (Pop (Lane f p) item) before may = tt
-send_so setting feeder Free (Pop (Mail f) item) before may = tt
-send_so setting feeder Free (Empty a) before may = tt
-send_so setting feeder Free (Look a b c) before may = tt
-send_so setting feeder Free (Post a b) before may = tt
-send_so setting feeder (Sending hand) (Split a) before may = absurd may
-send_so setting feeder (Sending hand) (Join a) before may = absurd may
-send_so setting feeder (Sending hand) (Take a) before may = absurd may
-send_so setting feeder (Sending hand) (Give a b c) before may = tt
-send_so setting feeder (Sending hand) (Push a b) before may = tt
-send_so setting feeder (Sending hand) (Full a) before may = goes_full setting feeder may.0 hand.parcel a before may.1
-send_so setting feeder (Sending hand) (Pop a b) before may = absurd may
-send_so setting feeder (Sending hand) (Empty a) before may = absurd may
-send_so setting feeder (Sending hand) (Look a b c) before may = absurd may
-send_so setting feeder (Sending hand) (Post a b) before may = absurd may
-send_so setting feeder (TurnsBack hand ring) (Split a) before may = absurd may
-send_so setting feeder (TurnsBack hand ring) (Join a) before may = absurd may
-send_so setting feeder (TurnsBack hand ring) (Take a) before may = absurd may
-send_so setting feeder (TurnsBack hand ring) (Give a b c) before may = tt
-send_so setting feeder (TurnsBack hand ring) (Push a b) before may = absurd may
-send_so setting feeder (TurnsBack hand ring) (Full a) before may = absurd may
-send_so setting feeder (TurnsBack hand ring) (Pop a b) before may = absurd may
-send_so setting feeder (TurnsBack hand ring) (Empty a) before may = absurd may
-send_so setting feeder (TurnsBack hand ring) (Look a b c) before may = absurd may
-send_so setting feeder (TurnsBack hand ring) (Post a b) before may = absurd may
-
-send_ends : (setting : Setting) (role : ℕ) (log : Log) → IsKind setting role Sends log → SendsSo log (send_phase log)
-send_ends setting role [] kind = tt
-send_ends setting role (act ∷ before) kind = send_so setting role (send_phase before) act before kind.0
+use Rattle.onvm_core.proofs.Endings.{EndsSo, SendsSo, receive_ends, send_ends}
 
 -- What a record says of the log before it
 
@@ -234,10 +53,6 @@ receive_full : (setting : Setting) (port : ℕ) (e : Entry) (phase : ReceivePhas
     (parcel : Parcel) (ring : RingId) (log : Log)
     → outcome ≡ RingFull ring → EndsSo port log phase → MayReceiveFor setting port e phase (Give b outcome parcel)
     → IsEarnedFull log ring
-receive_full setting port e (Between done) b outcome parcel ring log is h may = absurd may
-receive_full setting port e (Asks done k) b outcome parcel ring log is h may = absurd may
-receive_full setting port e (Seeks done k) b outcome parcel ring log is h may = absurd may
-receive_full setting port e (Sees done index seen) b outcome parcel ring log is h may = absurd may
 receive_full setting port e (Took done buf) b (Sent q) parcel ring log is h may =
     absurd (let off : ◌≡◌ {A = Outcome} (Sent q) (RingFull ring) = is in cc)
 receive_full setting port e (Took done buf) b (Dropped g w) parcel ring log is h may = absurd may
@@ -246,22 +61,20 @@ receive_full setting port e (Took done buf) b (RingFull r) parcel ring log is h 
 receive_full setting port e (Took done buf) b PoolEmpty parcel ring log is h may = absurd may
 receive_full setting port e (Barred done buf r) b outcome parcel ring log is h may =
     is_full r ring outcome log may.1 is h
+receive_full setting port e phase b outcome parcel ring log is h may = absurd may
 
 send_full : (setting : Setting) (feeder : ℕ) (phase : SendPhase) (b : BufId) (outcome : Outcome) (parcel : Parcel)
     (ring : RingId) (log : Log)
     → outcome ≡ RingFull ring → SendsSo log phase → MaySend setting feeder phase (Give b outcome parcel)
     → IsEarnedFull log ring
-send_full setting feeder Free b outcome parcel ring log is h may = absurd may
 send_full setting feeder (Sending hand) b (Sent q) parcel ring log is h may =
     absurd (let off : ◌≡◌ {A = Outcome} (Sent q) (RingFull ring) = is in cc)
 send_full setting feeder (Sending hand) b (Dropped g w) parcel ring log is h may =
     absurd (let off : ◌≡◌ {A = Outcome} (Dropped g w) (RingFull ring) = is in cc)
-send_full setting feeder (Sending hand) b (Throttled x y z) parcel ring log is h may = absurd may
-send_full setting feeder (Sending hand) b (RingFull r) parcel ring log is h may = absurd may
-send_full setting feeder (Sending hand) b PoolEmpty parcel ring log is h may = absurd may
 send_full setting feeder (TurnsBack hand r) b outcome parcel ring log is h may = is_full r ring outcome log may.1 is h
+send_full setting feeder phase b outcome parcel ring log is h may = absurd may
 
-give_full : (setting : Setting) (role : ℕ) (kind : Kind) (log : Log) (b : BufId) (outcome : Outcome)
+give_full : (setting : Setting) (role : ℕ) (kind : RoleKind) (log : Log) (b : BufId) (outcome : Outcome)
     (parcel : Parcel) (ring : RingId) → IsKind setting role kind (Give b outcome parcel ∷ log) → outcome ≡ RingFull ring
     → IsEarnedFull log ring
 give_full setting role Receives log b outcome parcel ring kind is =
@@ -282,32 +95,27 @@ give_full setting role Leads log b outcome parcel ring kind is = absurd kind.0
 -- the look is of a block of the port's next frame, at a post word, or at the last word of the part
 abbrev pub LookTells : Setting → ℕ → Log → Word → ℕ → Record → Type 0
 LookTells setting port log word seen told =
-    (e : Entry) × (done : ℕ) × (frame_after setting port done ≡ Some e)
-    × (((k : ℕ) × (word ≡ PostWord k) × IsHeld setting e k seen told)
-    ⊎ ((k : ℕ) × (word ≡ PoolWord (record { 0 = port }) k) × IsLost setting e k seen told × EndsWithLooks port k log))
+    (e : Entry) × (done : ℕ) × (entry_after setting port done ≡ Some e)
+    × (((k : ℕ) × (word ≡ PostWord k) × IsThrottleRecord setting e k seen told)
+    ⊎ ((k : ℕ) × (word ≡ PoolWord (record { 0 = port }) k) × IsPoolEmptyRecord setting e k seen told
+    × EndsWithLooks port k log))
 
 receive_tells : (setting : Setting) (port : ℕ) (e : Entry) (phase : ReceivePhase) (word : Word) (seen : ℕ)
     (told : Record) (log : Log)
-    → frame_after setting port (done_in phase) ≡ Some e → EndsSo port log phase
+    → entry_after setting port (done_count phase) ≡ Some e → EndsSo port log phase
     → MayReceiveFor setting port e phase (Look word seen (Some told))
     → LookTells setting port log word seen told
 receive_tells setting port e (Between done) word seen told log found h may = (e, done, found, inl (0, may.0, may.1))
 receive_tells setting port e (Asks done k) word seen told log found h may = (e, done, found, inl (k, may.0, may.1))
 receive_tells setting port e (Seeks done k) word seen told log found h may = (e, done, found, inr (k, may.0, may.1, h))
-receive_tells setting port e (Sees done index v) word seen told log found h may = absurd may
-receive_tells setting port e (Took done buf) word seen told log found h may = absurd may
-receive_tells setting port e (Barred done buf ring) word seen told log found h may = absurd may
+receive_tells setting port e phase word seen told log found h may = absurd may
 
 mark_untold : (setting : Setting) (feeder : ℕ) (word : Word) (seen : ℕ) (told : Record)
-    → IsMark setting feeder (Look word seen (Some told))
+    → IsMarkAct setting feeder (Look word seen (Some told))
     → ⊥
 mark_untold setting feeder (Cell (Lane f p) at) seen told may =
     let off : ◌≡◌ {A = Option Record} (Some told) None = may.3 in cc
-mark_untold setting feeder (Cell (Output f) at) seen told may = may
-mark_untold setting feeder (Cell (Mail f) at) seen told may = may
-mark_untold setting feeder (PoolWord a b) seen told may = may
-mark_untold setting feeder (PostWord a) seen told may = may
-mark_untold setting feeder (Weight a) seen told may = may
+mark_untold setting feeder word seen told may = may
 
 send_untold : (setting : Setting) (feeder : ℕ) (phase : SendPhase) (word : Word) (seen : ℕ) (told : Record)
     → MaySend setting feeder phase (Look word seen (Some told))
@@ -316,7 +124,7 @@ send_untold setting feeder Free word seen told may = mark_untold setting feeder 
 send_untold setting feeder (Sending hand) word seen told may = may
 send_untold setting feeder (TurnsBack hand ring) word seen told may = may
 
-look_tells : (setting : Setting) (role : ℕ) (kind : Kind) (log : Log) (word : Word) (seen : ℕ) (told : Record)
+look_tells : (setting : Setting) (role : ℕ) (kind : RoleKind) (log : Log) (word : Word) (seen : ℕ) (told : Record)
     → IsKind setting role kind (Look word seen (Some told) ∷ log)
     → LookTells setting role log word seen told
 look_tells setting role Receives log word seen told kind =
@@ -337,11 +145,9 @@ look_tells setting role Leads log word seen told kind =
 -- A give records that a frame was sent, dropped, or barred by a full ring
 
 abbrev pub Gives : Outcome → Type 0
-Gives (Sent q) = Unit {0}
-Gives (Dropped f why) = Unit {0}
-Gives (RingFull ring) = Unit {0}
 Gives (Throttled feeder post function) = ⊥
 Gives PoolEmpty = ⊥
+Gives outcome = Unit {0}
 
 full_gives : (ring : RingId) (outcome : Outcome) → outcome ≡ RingFull ring → Gives outcome
 full_gives ring outcome is = subst Gives (sym is) tt
@@ -349,29 +155,24 @@ full_gives ring outcome is = subst Gives (sym is) tt
 receive_gives : (setting : Setting) (port : ℕ) (e : Entry) (phase : ReceivePhase) (b : BufId) (outcome : Outcome)
     (parcel : Parcel) → MayReceiveFor setting port e phase (Give b outcome parcel)
     → Gives outcome
-receive_gives setting port e (Between done) b outcome parcel may = absurd may
-receive_gives setting port e (Asks done k) b outcome parcel may = absurd may
-receive_gives setting port e (Seeks done k) b outcome parcel may = absurd may
-receive_gives setting port e (Sees done index seen) b outcome parcel may = absurd may
 receive_gives setting port e (Took done buf) b (Sent q) parcel may = tt
 receive_gives setting port e (Took done buf) b (Dropped g w) parcel may = absurd may
 receive_gives setting port e (Took done buf) b (Throttled x y z) parcel may = absurd may
 receive_gives setting port e (Took done buf) b (RingFull r) parcel may = absurd may
 receive_gives setting port e (Took done buf) b PoolEmpty parcel may = absurd may
 receive_gives setting port e (Barred done buf r) b outcome parcel may = full_gives r outcome may.1
+receive_gives setting port e phase b outcome parcel may = absurd may
 
 send_gives : (setting : Setting) (feeder : ℕ) (phase : SendPhase) (b : BufId) (outcome : Outcome) (parcel : Parcel)
     → MaySend setting feeder phase (Give b outcome parcel)
     → Gives outcome
-send_gives setting feeder Free b outcome parcel may = absurd may
 send_gives setting feeder (Sending hand) b (Sent q) parcel may = tt
 send_gives setting feeder (Sending hand) b (Dropped g w) parcel may = tt
-send_gives setting feeder (Sending hand) b (Throttled x y z) parcel may = absurd may
-send_gives setting feeder (Sending hand) b (RingFull r) parcel may = absurd may
-send_gives setting feeder (Sending hand) b PoolEmpty parcel may = absurd may
 send_gives setting feeder (TurnsBack hand r) b outcome parcel may = full_gives r outcome may.1
+send_gives setting feeder phase b outcome parcel may = absurd may
 
-give_gives : (setting : Setting) (role : ℕ) (kind : Kind) (log : Log) (b : BufId) (outcome : Outcome) (parcel : Parcel)
+give_gives : (setting : Setting) (role : ℕ) (kind : RoleKind) (log : Log) (b : BufId) (outcome : Outcome)
+    (parcel : Parcel)
     → MayFollow setting role kind log (Give b outcome parcel)
     → Gives outcome
 give_gives setting role Receives log b outcome parcel may =
@@ -380,9 +181,7 @@ give_gives setting role Receives log b outcome parcel may =
       | inr block ↦ receive_gives setting role block.0 (receive_phase setting log) b outcome parcel block.2
     ]
 give_gives setting role Sends log b outcome parcel may = send_gives setting role (send_phase log) b outcome parcel may
-give_gives setting role Handles log b outcome parcel may = absurd may
-give_gives setting role Ticks log b outcome parcel may = absurd may
-give_gives setting role Leads log b outcome parcel may = absurd may
+give_gives setting role kind log b outcome parcel may = absurd may
 
 -- the log of the acting role, with the step's act
 pub acting : (setting : Setting) (step : Step) (before : History) (act : Act)
@@ -403,7 +202,7 @@ ToldBy setting role log told act =
     ⊎ ((word : Word) × (seen : ℕ) × (act ≡ Look word seen (Some told)) × LookTells setting role log word seen told)
 
 told_by_act : (setting : Setting) (role : ℕ) (log : Log) (told : Record) (act : Act)
-    → recorded act ≡ told ∷ [] → IsKind setting role (kind_of setting.layout role) (act ∷ log)
+    → records_of_act act ≡ told ∷ [] → IsKind setting role (kind_of setting.layout role) (act ∷ log)
     → ToldBy setting role log told act
 told_by_act setting role log told (Give b outcome parcel) e kind =
     let same : record { frame = parcel.frame; outcome = outcome } ≡ told =
@@ -426,18 +225,10 @@ told_by_act setting role log told (Look word seen (Some other)) e kind =
       subst (LookTells setting role log word seen) same
           (look_tells setting role (kind_of setting.layout role) log word seen other kind),
     )
-told_by_act setting role log told (Look word seen None) e kind = absurd (no_record told e)
-told_by_act setting role log told (Split a) e kind = absurd (no_record told e)
-told_by_act setting role log told (Join a) e kind = absurd (no_record told e)
-told_by_act setting role log told (Take a) e kind = absurd (no_record told e)
-told_by_act setting role log told (Push a b) e kind = absurd (no_record told e)
-told_by_act setting role log told (Full a) e kind = absurd (no_record told e)
-told_by_act setting role log told (Pop a b) e kind = absurd (no_record told e)
-told_by_act setting role log told (Empty a) e kind = absurd (no_record told e)
-told_by_act setting role log told (Post a b) e kind = absurd (no_record told e)
+told_by_act setting role log told act e kind = absurd (no_record told e)
 
 pub told_by : (setting : Setting) (step : Step) (before : History) (told : Record)
-    → AllOfBlocks setting (step ∷ before) → recorded step.act ≡ told ∷ []
+    → AllOfBlocks setting (step ∷ before) → records_of_act step.act ≡ told ∷ []
     → ToldBy setting step.role (log_of step.role before) told step.act
 told_by setting step before told blocks e =
     told_by_act setting step.role (log_of step.role before) told step.act e
@@ -461,14 +252,12 @@ not_throttled_empty told k n f one two = let off : ◌≡◌ {A = Outcome} (Thro
 
 give_records : (b : BufId) (o : Outcome) (parcel : Parcel) (outcome : Outcome) → Gives outcome
     → MayRecord (Give b o parcel) outcome
-give_records b o parcel (Sent q) gives = tt
-give_records b o parcel (Dropped f why) gives = tt
-give_records b o parcel (RingFull ring) gives = tt
 give_records b o parcel (Throttled x y z) gives = absurd gives
 give_records b o parcel PoolEmpty gives = absurd gives
+give_records b o parcel outcome gives = tt
 
 pub may_record : (setting : Setting) (step : Step) (before : History) (told : Record)
-    → AllOfBlocks setting (step ∷ before) → recorded step.act ≡ told ∷ []
+    → AllOfBlocks setting (step ∷ before) → records_of_act step.act ≡ told ∷ []
     → MayRecord step.act told.outcome
 may_record setting step before told blocks e =
     elim (told_by setting step before told blocks e) [
@@ -485,7 +274,7 @@ may_record setting step before told blocks e =
 
 -- each overflow of a ring is earned
 pub earned_full : (setting : Setting) (step : Step) (before : History) (told : Record) (ring : RingId)
-    → AllOfBlocks setting (step ∷ before) → recorded step.act ≡ told ∷ [] → told.outcome ≡ RingFull ring
+    → AllOfBlocks setting (step ∷ before) → records_of_act step.act ≡ told ∷ [] → told.outcome ≡ RingFull ring
     → IsEarnedFull (log_of step.role before) ring
 earned_full setting step before told ring blocks e is =
     elim (told_by setting step before told blocks e) [
@@ -500,7 +289,7 @@ earned_full setting step before told ring blocks e is =
     ]
 
 -- the frames of a port are of the port
-ports_are : (port : ℕ) (es : List Entry) → Each (λ (e : Entry). e.frame.port.0 ≡ port) (of_port port es)
+ports_are : (port : ℕ) (es : List Entry) → Each (λ (e : Entry). e.frame.port.0 ≡ port) (entries_of_port port es)
 ports_are port [] = tt
 ports_are port (e ∷ es) =
     elim (cases_Bool (e.frame.port.0 == port)) [
@@ -513,15 +302,15 @@ each_at P [] k x e h = absurd (cc)
 each_at P (y ∷ xs) zero x e h = let same : y ≡ x = cc in subst P same h.0
 each_at P (y ∷ xs) (suc k) x e h = each_at P xs k x e h.1
 
-pub port_is : (setting : Setting) (port done : ℕ) (e : Entry) → frame_after setting port done ≡ Some e
+pub port_is : (setting : Setting) (port done : ℕ) (e : Entry) → entry_after setting port done ≡ Some e
     → e.frame.port.0 ≡ port
 port_is setting port done e found =
-    each_at (λ (e : Entry). e.frame.port.0 ≡ port) (of_port port setting.entries) done e found
+    each_at (λ (e : Entry). e.frame.port.0 ≡ port) (entries_of_port port setting.entries) done e found
     (ports_are port setting.entries)
 
 -- each overflow of a pool is earned
 pub earned_empty : (setting : Setting) (step : Step) (before : History) (told : Record)
-    → AllOfBlocks setting (step ∷ before) → recorded step.act ≡ told ∷ [] → told.outcome ≡ PoolEmpty
+    → AllOfBlocks setting (step ∷ before) → records_of_act step.act ≡ told ∷ [] → told.outcome ≡ PoolEmpty
     → IsEarnedEmpty setting step.role (log_of step.role before) step.act × (told.frame.port.0 ≡ step.role)
 earned_empty setting step before told blocks e is =
     elim (told_by setting step before told blocks e) [
@@ -558,10 +347,7 @@ receive_sent : (setting : Setting) (port : ℕ) (e : Entry) (phase : ReceivePhas
 receive_sent setting port e (Took done buf) b q parcel may = sent_entry setting e parcel q may.1 may.2
 receive_sent setting port e (Barred done buf r) b q parcel may =
     absurd (let off : ◌≡◌ {A = Outcome} (Sent q) (RingFull r) = may.1 in cc)
-receive_sent setting port e (Between done) b q parcel may = absurd may
-receive_sent setting port e (Asks done k) b q parcel may = absurd may
-receive_sent setting port e (Seeks done k) b q parcel may = absurd may
-receive_sent setting port e (Sees done index seen) b q parcel may = absurd may
+receive_sent setting port e phase b q parcel may = absurd may
 
 send_sent : (setting : Setting) (feeder : ℕ) (phase : SendPhase) (b : BufId) (q : ℕ) (parcel : Parcel)
     → MaySend setting feeder phase (Give b (Sent q) parcel)
@@ -572,7 +358,7 @@ send_sent setting feeder (Sending hand) b q parcel may =
 send_sent setting feeder (TurnsBack hand r) b q parcel may =
     absurd (let off : ◌≡◌ {A = Outcome} (Sent q) (RingFull r) = may.1 in cc)
 
-kind_sent : (setting : Setting) (role : ℕ) (kind : Kind) (log : Log) (b : BufId) (q : ℕ) (parcel : Parcel)
+kind_sent : (setting : Setting) (role : ℕ) (kind : RoleKind) (log : Log) (b : BufId) (q : ℕ) (parcel : Parcel)
     → MayFollow setting role kind log (Give b (Sent q) parcel)
     → IsSent setting parcel q
 kind_sent setting role Receives log b q parcel may =
@@ -581,9 +367,7 @@ kind_sent setting role Receives log b q parcel may =
       | inr block ↦ receive_sent setting role block.0 (receive_phase setting log) b q parcel block.2
     ]
 kind_sent setting role Sends log b q parcel may = send_sent setting role (send_phase log) b q parcel may
-kind_sent setting role Handles log b q parcel may = absurd may
-kind_sent setting role Ticks log b q parcel may = absurd may
-kind_sent setting role Leads log b q parcel may = absurd may
+kind_sent setting role kind log b q parcel may = absurd may
 
 -- each send is the move's
 pub is_sent : (setting : Setting) (step : Step) (before : History) (b : BufId) (q : ℕ) (parcel : Parcel)

@@ -1,11 +1,10 @@
 -- No step raises the potential.
-use Rattle.std.proofs.Common.{◌≡◌, ℕ, ◌+◌, ◌-◌, ◌*◌, ◌<◌, ◌≤◌, zero, suc, ◌⊎◌, inl, inr, ◌∷◌, length, refl, sym, ◌∙◌, ap, subst, arith, Option, Some, None}
+use Rattle.std.proofs.Common.{◌≡◌, ℕ, ◌+◌, ◌-◌, ◌*◌, ◌<◌, ◌≤◌, zero, suc, inl, inr, ◌∷◌, length, refl, sym, subst, arith, Option, Some, None}
 use Rattle.std.specs.Prelude.{nat_lt, unwrap_or}
-use Rattle.std.proofs.lemmas.Bool.{cases_Bool, eq-eqb, ne_eqb, cases_order, le-ltb, ltb-true, ltb-false}
+use Rattle.std.proofs.lemmas.Bool.{cases_Bool, eq-eqb, ne_eqb, cases_order, ltb-true, ltb-false}
 use Rattle.onvm_base.specs.declared.ids.RingId.{RingId}
 use Rattle.onvm_base.specs.declared.ids.BufId.{BufId}
 use Rattle.onvm_base.specs.declared.ids.FnId.{FnId}
-use Rattle.std.proofs.lemmas.List.{length_push}
 use Rattle.onvm_base.specs.declared.ids.FrameId.{FrameId}
 use Rattle.onvm_core.specs.declared.layout.Layout.{Layout}
 use Rattle.onvm_core.specs.declared.parcel.Parcel.{Parcel}
@@ -16,30 +15,28 @@ use Rattle.onvm_core.specs.declared.step.Act.TheVariants.{Split, Join, Take, Giv
 use Rattle.onvm_core.specs.declared.step.Step.{Step}
 use Rattle.onvm_core.specs.declared.place.Place.{Place}
 use Rattle.onvm_core.specs.declared.place.Place.TheVariants.{Ring, Role}
-use Rattle.onvm_core.specs.Layouts.{consumer, core_role}
-use Rattle.onvm_core.specs.History.{History, content_of, place_of, puts}
-use Rattle.onvm_core.specs.Lawful.{AllowsAct, IsLawful, Suits}
-use Rattle.onvm_core.specs.Logs.{Setting, of_port, Log, log_of, Hand, frame_after, IsNumbered}
-use Rattle.onvm_core.specs.Receiving.{ReceivePhase, receive_after, receive_phase, done_in, MayReceive, MayReceiveFor}
-use Rattle.onvm_core.specs.Handling.{core_hand, MayHandle, crumb_place}
+use Rattle.onvm_core.specs.History.{History, content_of, place_of, place_by}
+use Rattle.onvm_core.specs.Lawful.{AllowsAct, IsLawful}
+use Rattle.onvm_core.specs.Logs.{Setting, entries_of_port, Log, log_of, entry_after, IsNumbered}
+use Rattle.onvm_core.specs.Receiving.{ReceivePhase, receive_after, receive_phase, done_count, MayReceive, MayReceiveFor}
 use Rattle.onvm_core.specs.Sending.{SendPhase, send_phase, MaySend}
-use Rattle.onvm_core.specs.Blocks.{Kind, kind_of, MayFollow, IsOfBlocks, AllOfBlocks}
-use Rattle.onvm_core.specs.Frames.{Load, load, load_after, block_frame, begun_in}
-use Rattle.onvm_core.specs.Potential.{sum_below, is_sender, weight, waiting, potential}
-use Rattle.onvm_base.specs.declared.ids.RingId.TheVariants.{Lane, Output, Mail}
+use Rattle.onvm_core.specs.Blocks.{RoleKind, kind_of, MayFollow, IsOfBlocks, AllOfBlocks}
+use Rattle.onvm_core.specs.Frames.{Load, load, load_after, block_frame, begun_count}
+use Rattle.onvm_core.specs.Potential.{sum_below, load_potential, waiting_count, potential}
+use Rattle.onvm_base.specs.declared.ids.RingId.TheVariants.{Mail}
 use Rattle.onvm_core.specs.declared.entry.Entry.{Entry}
 use Rattle.onvm_core.specs.Receiving.ReceivePhase.{Between, Asks, Seeks, Sees, Took, Barred}
 use Rattle.onvm_core.specs.Sending.SendPhase.{Free, Moves as Sending, TurnsBack}
-use Rattle.onvm_core.specs.Blocks.Kind.{Receives, Sends, Handles, Ticks, Leads}
-use Rattle.onvm_core.specs.Frames.Load.{Fresh, Loaded}
+use Rattle.onvm_core.specs.Blocks.RoleKind.{Receives, Sends}
+use Rattle.onvm_core.specs.Frames.Load.{Loaded}
 use Rattle.onvm_core.proofs.Loads.{own_load, own_load_is, HasLoad, pool_load, content_loaded, IsLoaded}
-use Rattle.onvm_core.proofs.Hands.{is_kind, IsKind}
+use Rattle.onvm_core.proofs.Hands.{is_kind}
 use Rattle.onvm_core.proofs.Loads.{IsAt, content_at, first_of}
-use Rattle.onvm_core.proofs.Hands.{HasTaken, HasHand, HasSend, receive_has, core_has, send_has}
 use Rattle.onvm_core.proofs.Balance.{own_blocks}
 use Rattle.onvm_core.proofs.Begun.{starts, own_begins, kind_receives, kind_other, other_starts}
 use Rattle.onvm_core.proofs.Sums.{sum_same}
 use Rattle.std.proofs.lemmas.Option.{slice_get_within}
+use Rattle.onvm_core.proofs.Lighter.{Lighter, lighter_by_kind, short_of, popped_lighter}
 
 sum_apart : (f g : ℕ → ℕ) (n x : ℕ) → n ≤ x → ((k : ℕ) → (k ≡ x → ⊥) → f k ≡ g k) → sum_below f n ≡ sum_below g n
 sum_apart f g zero x le h = refl
@@ -65,102 +62,6 @@ sum_falls f g (suc n) x h le =
       | inr (inr more) ↦ omega (arith, h n (λ e. omega arith), sum_falls f g n x h le)
     ]
 
--- What is pushed weighs no more than before
-
-abbrev Lighter : Layout → ℕ → Option (ℕ × Load) → RingId → BufId → Parcel → Type 0
-Lighter layout role own ring b parcel =
-    (what : Load) × (own ≡ Some (b.0, what))
-    × (weight layout (Ring ring) (Some (Loaded parcel)) ≤ weight layout (Role role) (Some what))
-
-receive_lighter : (setting : Setting) (port : ℕ) (e : Entry) (phase : ReceivePhase) (own : Option (ℕ × Load))
-    (ring : RingId) (b : BufId) (parcel : Parcel)
-    → HasTaken port own phase → MayReceiveFor setting port e phase (Push ring (Buffer b parcel))
-    → Lighter setting.layout port own ring b parcel
-receive_lighter setting port e (Took done buf) own ring b parcel h may = (
-  Fresh (record { port = record { 0 = port }; number = done + 1 }),
-  h ∙ ap (λ (n : ℕ). Some (n, Fresh (record { port = record { 0 = port }; number = done + 1 }))) (sym may.0),
-  rw (may.2.lane, may.1) (omega arith),
-)
-receive_lighter setting port e (Between done) own ring b parcel h may = absurd may
-receive_lighter setting port e (Asks done k) own ring b parcel h may = absurd may
-receive_lighter setting port e (Seeks done k) own ring b parcel h may = absurd may
-receive_lighter setting port e (Sees done index seen) own ring b parcel h may = absurd may
-receive_lighter setting port e (Barred done buf r) own ring b parcel h may = absurd may
-
-core_lighter : (setting : Setting) (role : ℕ) (before : Log) (own : Option (ℕ × Load)) (ring : RingId) (b : BufId)
-    (parcel : Parcel)
-    → HasHand own (core_hand before) → length parcel.trail ≤ 32
-    → MayHandle setting role before (Push ring (Buffer b parcel))
-    → Lighter setting.layout role own ring b parcel
-core_lighter setting role before own (Output f) b parcel h short may =
-    let hand : Hand = may.hand in
-    let longer : length parcel.trail ≡ length hand.parcel.trail + 1 =
-    ap (λ (p : Parcel). length p.trail) may.handled.same ∙ length_push hand.parcel.trail
-    (record { function = f; place = crumb_place f before; verdict = may.handled.verdict }) in (
-      Loaded hand.parcel,
-      subst (HasHand own) may.held h ∙ ap (λ (n : ℕ). Some (n, Loaded hand.parcel)) may.same,
-      elim (cases_Bool (is_sender setting.layout role)) [
-        | inl met ↦ rw met (omega (arith, longer, short))
-        | inr unmet ↦ rw unmet (omega (arith, longer, short))
-      ],
-    )
-core_lighter setting role before own (Mail f) b parcel h short may = absurd may
-core_lighter setting role before own (Lane f p) b parcel h short may = absurd may
-
-send_lighter : (setting : Setting) (feeder : ℕ) (phase : SendPhase) (own : Option (ℕ × Load)) (ring : RingId)
-    (b : BufId) (parcel : Parcel) → HasSend own phase → MaySend setting feeder phase (Push ring (Buffer b parcel))
-    → Lighter setting.layout feeder own ring b parcel
-send_lighter setting feeder Free own ring b parcel h may = absurd may
-send_lighter setting feeder (Sending hand) own ring b parcel h may =
-    let same : length parcel.trail ≡ length hand.parcel.trail = ap (λ (p : Parcel). length p.trail) may.1.2 in (
-      Loaded hand.parcel,
-      h ∙ ap (λ (n : ℕ). Some (n, Loaded hand.parcel)) (sym may.0),
-      rw may.1.1.lane (elim (cases_Bool (is_sender setting.layout feeder)) [
-        | inl met ↦ rw met (omega (arith, same))
-        | inr unmet ↦ rw unmet (omega (arith, same))
-      ]),
-    )
-send_lighter setting feeder (TurnsBack hand r) own ring b parcel h may = absurd may
-
-lighter_by_kind : (setting : Setting) (role : ℕ) (kind : Kind) (log : Log) (ring : RingId) (b : BufId) (parcel : Parcel)
-    → length parcel.trail ≤ 32 → IsKind setting role kind (Push ring (Buffer b parcel) ∷ log)
-    → Lighter setting.layout role (own_load setting role log) ring b parcel
-lighter_by_kind setting role Receives log ring b parcel short h =
-    elim h.0 [
-      | inl mark ↦ absurd mark.1
-      | inr block ↦
-          receive_lighter setting role block.0 (receive_phase setting log) (own_load setting role log) ring b parcel
-          (receive_has setting role log h.1) block.2
-    ]
-lighter_by_kind setting role Sends log ring b parcel short h =
-    send_lighter setting role (send_phase log) (own_load setting role log) ring b parcel
-    (send_has setting role log h.1) h.0
-lighter_by_kind setting role Handles log ring b parcel short h =
-    core_lighter setting role log (own_load setting role log) ring b parcel (core_has setting role log h.1) short h.0
-lighter_by_kind setting role Ticks log ring b parcel short h = absurd h.0
-lighter_by_kind setting role Leads log ring b parcel short h = absurd h.0
-
-short_of : (layout : Layout) (past : History) (role : ℕ) (ring : RingId) (b : BufId) (parcel : Parcel)
-    → Suits layout past role ring (Buffer b parcel)
-    → length parcel.trail ≤ 32
-short_of layout past role (Lane f p) b parcel suits = omega (arith, suits.1)
-short_of layout past role (Output f) b parcel suits = suits.2
-short_of layout past role (Mail f) b parcel suits = absurd suits
-
--- what is popped weighs no more than before
-popped_lighter : (layout : Layout) (ring : RingId) (parcel : Parcel)
-    → weight layout (Role (consumer layout ring)) (Some (Loaded parcel))
-    ≤ weight layout (Ring ring) (Some (Loaded parcel))
-    ⊎ ((f : FnId) × (ring ≡ Mail f))
-popped_lighter layout (Lane f p) parcel =
-    inl (rw (le-ltb (core_role layout f.0) (layout.ports + layout.transmit) (omega arith)) (omega arith))
-popped_lighter layout (Output f) parcel =
-    inl (elim (cases_Bool (is_sender layout (consumer layout (Output f)))) [
-      | inl met ↦ rw met (omega arith)
-      | inr unmet ↦ rw unmet (omega arith)
-    ])
-popped_lighter layout (Mail f) parcel = inr (f, refl)
-
 abbrev takes : Act → ℕ
 takes (Take b) = 1
 takes _ = 0
@@ -169,26 +70,26 @@ takes _ = 0
 abbrev Lightens : Layout → ℕ → (ℕ → Place) → (ℕ → Option Load) → ℕ → Act → Type 0
 Lightens layout role places loads n (Take b) = (b.0 < n) × (loads b.0 ≡ None)
 Lightens layout role places loads n (Push r (Buffer b parcel)) =
-    weight layout (Ring r) (Some (Loaded parcel)) ≤ weight layout (places b.0) (loads b.0)
+    load_potential layout (Ring r) (Some (Loaded parcel)) ≤ load_potential layout (places b.0) (loads b.0)
 Lightens layout role places loads n (Pop r (Buffer b parcel)) =
-    weight layout (Role role) (Some (Loaded parcel)) ≤ weight layout (places b.0) (loads b.0)
+    load_potential layout (Role role) (Some (Loaded parcel)) ≤ load_potential layout (places b.0) (loads b.0)
 Lightens layout role places loads n _ = Unit {0}
 
 abbrev heavy_after : Layout → ℕ → FrameId → Act → (ℕ → Place) → (ℕ → Option Load) → ℕ → ℕ
 heavy_after layout role fresh act places loads buf =
-    weight layout (unwrap_or (puts buf role act) (places buf)) (load_after buf fresh act (loads buf))
+    load_potential layout (unwrap_or (place_by buf role act) (places buf)) (load_after buf fresh act (loads buf))
 
 buffers_step : (layout : Layout) (role : ℕ) (fresh : FrameId) (act : Act) (places : ℕ → Place)
     (loads : ℕ → Option Load) (n : ℕ) → Lightens layout role places loads n act
     → sum_below (heavy_after layout role fresh act places loads) n
-    ≤ sum_below (λ buf. weight layout (places buf) (loads buf)) n + 66 * takes act
+    ≤ sum_below (λ buf. load_potential layout (places buf) (loads buf)) n + 66 * takes act
 buffers_step layout role fresh (Take b) places loads n facts =
     let changed : sum_below (heavy_after layout role fresh (Take b) places loads) n
-    + weight layout (places b.0) (loads b.0)
-    ≡ sum_below (λ buf. weight layout (places buf) (loads buf)) n
+    + load_potential layout (places b.0) (loads b.0)
+    ≡ sum_below (λ buf. load_potential layout (places buf) (loads buf)) n
     + heavy_after layout role fresh (Take b) places loads b.0
     = sum_change (heavy_after layout role fresh (Take b) places loads)
-    (λ buf. weight layout (places buf) (loads buf)) n b.0 facts.0
+    (λ buf. load_potential layout (places buf) (loads buf)) n b.0 facts.0
     (λ k apart. rw (ne_eqb b.0 k (λ e. apart (sym e))) refl) in
     let now : heavy_after layout role fresh (Take b) places loads b.0 ≡ 66 = rw (eq-eqb b.0 b.0 refl) refl in
     omega (arith, changed, now)
@@ -198,76 +99,83 @@ buffers_step layout role fresh (Give b outcome parcel) places loads n facts =
     omega (
       arith,
       sum_falls (heavy_after layout role fresh (Give b outcome parcel) places loads)
-          (λ buf. weight layout (places buf) (loads buf)) n b.0 (λ k apart. rw (ne_eqb b.0 k (λ e. apart (sym e))) refl)
+          (λ buf. load_potential layout (places buf) (loads buf)) n b.0
+          (λ k apart. rw (ne_eqb b.0 k (λ e. apart (sym e))) refl)
           (omega (arith, now)),
     )
 buffers_step layout role fresh (Push r (Buffer b parcel)) places loads n facts =
     let now : heavy_after layout role fresh (Push r (Buffer b parcel)) places loads b.0
-    ≡ weight layout (Ring r) (Some (Loaded parcel))
+    ≡ load_potential layout (Ring r) (Some (Loaded parcel))
     = rw (eq-eqb b.0 b.0 refl) refl in
     omega (
       arith,
       sum_falls (heavy_after layout role fresh (Push r (Buffer b parcel)) places loads)
-          (λ buf. weight layout (places buf) (loads buf)) n b.0 (λ k apart. rw (ne_eqb b.0 k (λ e. apart (sym e))) refl)
+          (λ buf. load_potential layout (places buf) (loads buf)) n b.0
+          (λ k apart. rw (ne_eqb b.0 k (λ e. apart (sym e))) refl)
           (omega (arith, now, facts)),
     )
 buffers_step layout role fresh (Pop r (Buffer b parcel)) places loads n facts =
     let now : heavy_after layout role fresh (Pop r (Buffer b parcel)) places loads b.0
-    ≡ weight layout (Role role) (Some (Loaded parcel))
+    ≡ load_potential layout (Role role) (Some (Loaded parcel))
     = rw (eq-eqb b.0 b.0 refl) refl in
     omega (
       arith,
       sum_falls (heavy_after layout role fresh (Pop r (Buffer b parcel)) places loads)
-          (λ buf. weight layout (places buf) (loads buf)) n b.0 (λ k apart. rw (ne_eqb b.0 k (λ e. apart (sym e))) refl)
+          (λ buf. load_potential layout (places buf) (loads buf)) n b.0
+          (λ k apart. rw (ne_eqb b.0 k (λ e. apart (sym e))) refl)
           (omega (arith, now, facts)),
     )
 buffers_step layout role fresh (Push r (Number m)) places loads n facts =
     omega (
       arith,
       sum_same (heavy_after layout role fresh (Push r (Number m)) places loads)
-          (λ buf. weight layout (places buf) (loads buf)) n (λ k less. refl),
+          (λ buf. load_potential layout (places buf) (loads buf)) n (λ k less. refl),
     )
 buffers_step layout role fresh (Pop r (Number m)) places loads n facts =
     omega (
       arith,
       sum_same (heavy_after layout role fresh (Pop r (Number m)) places loads)
-          (λ buf. weight layout (places buf) (loads buf)) n (λ k less. refl),
+          (λ buf. load_potential layout (places buf) (loads buf)) n (λ k less. refl),
     )
 buffers_step layout role fresh (Split a) places loads n facts =
     omega (
       arith,
-      sum_same (heavy_after layout role fresh (Split a) places loads) (λ buf. weight layout (places buf) (loads buf)) n
+      sum_same (heavy_after layout role fresh (Split a) places loads)
+          (λ buf. load_potential layout (places buf) (loads buf)) n
           (λ k less. refl),
     )
 buffers_step layout role fresh (Join a) places loads n facts =
     omega (
       arith,
-      sum_same (heavy_after layout role fresh (Join a) places loads) (λ buf. weight layout (places buf) (loads buf)) n
+      sum_same (heavy_after layout role fresh (Join a) places loads)
+          (λ buf. load_potential layout (places buf) (loads buf)) n
           (λ k less. refl),
     )
 buffers_step layout role fresh (Full a) places loads n facts =
     omega (
       arith,
-      sum_same (heavy_after layout role fresh (Full a) places loads) (λ buf. weight layout (places buf) (loads buf)) n
+      sum_same (heavy_after layout role fresh (Full a) places loads)
+          (λ buf. load_potential layout (places buf) (loads buf)) n
           (λ k less. refl),
     )
 buffers_step layout role fresh (Empty a) places loads n facts =
     omega (
       arith,
-      sum_same (heavy_after layout role fresh (Empty a) places loads) (λ buf. weight layout (places buf) (loads buf)) n
+      sum_same (heavy_after layout role fresh (Empty a) places loads)
+          (λ buf. load_potential layout (places buf) (loads buf)) n
           (λ k less. refl),
     )
 buffers_step layout role fresh (Look x y z) places loads n facts =
     omega (
       arith,
       sum_same (heavy_after layout role fresh (Look x y z) places loads)
-          (λ buf. weight layout (places buf) (loads buf)) n (λ k less. refl),
+          (λ buf. load_potential layout (places buf) (loads buf)) n (λ k less. refl),
     )
 buffers_step layout role fresh (Post x y) places loads n facts =
     omega (
       arith,
       sum_same (heavy_after layout role fresh (Post x y) places loads)
-          (λ buf. weight layout (places buf) (loads buf)) n (λ k less. refl),
+          (λ buf. load_potential layout (places buf) (loads buf)) n (λ k less. refl),
     )
 
 no_pop : (setting : Setting) (port : ℕ) (e : Entry) (phase : ReceivePhase) (act : Act) (ring : RingId) (item : Item)
@@ -293,7 +201,7 @@ no_mail setting feeder (Sending hand) f b parcel may = may
 no_mail setting feeder (TurnsBack hand r) f b parcel may = may
 
 -- no parcel is popped from a mail ring
-no_mail_parcel : (setting : Setting) (role : ℕ) (kind : Kind) (log : Log) (f : FnId) (b : BufId) (parcel : Parcel)
+no_mail_parcel : (setting : Setting) (role : ℕ) (kind : RoleKind) (log : Log) (f : FnId) (b : BufId) (parcel : Parcel)
     → MayFollow setting role kind log (Pop (Mail f) (Buffer b parcel))
     → ⊥
 no_mail_parcel setting role Receives log f b parcel may =
@@ -304,9 +212,7 @@ no_mail_parcel setting role Receives log f b parcel may =
           (Buffer b parcel) refl block.2
     ]
 no_mail_parcel setting role Sends log f b parcel may = no_mail setting role (send_phase log) f b parcel may
-no_mail_parcel setting role Handles log f b parcel may = may
-no_mail_parcel setting role Ticks log f b parcel may = may
-no_mail_parcel setting role Leads log f b parcel may = may
+no_mail_parcel setting role kind log f b parcel may = may
 
 -- lawful steps and blocks lighten
 lightens_of : (setting : Setting) (before : History) (role : ℕ) (act : Act)
@@ -317,7 +223,7 @@ lightens_of : (setting : Setting) (before : History) (role : ℕ) (act : Act)
 lightens_of setting before role (Take b) lawful allowed blocks =
     (allowed.known, pool_load setting before b.0 allowed.in_pool)
 lightens_of setting before role (Push r (Buffer b parcel)) lawful allowed blocks =
-    let kind : Kind = kind_of setting.layout role in
+    let kind : RoleKind = kind_of setting.layout role in
     let light : Lighter setting.layout role (own_load setting role (log_of role before)) r b parcel =
     lighter_by_kind setting role kind (log_of role before) r b parcel
     (short_of setting.layout before role r b parcel allowed.suits)
@@ -338,32 +244,20 @@ lightens_of setting before role (Pop r (Buffer b parcel)) lawful allowed blocks 
           (λ s. MayFollow setting role (kind_of setting.layout role) (log_of role before) (Pop s (Buffer b parcel)))
           mail.1 blocks.0))
     ])
-lightens_of setting before role (Give b outcome parcel) lawful allowed blocks = tt
-lightens_of setting before role (Push r (Number m)) lawful allowed blocks = tt
-lightens_of setting before role (Pop r (Number m)) lawful allowed blocks = tt
-lightens_of setting before role (Split a) lawful allowed blocks = tt
-lightens_of setting before role (Join a) lawful allowed blocks = tt
-lightens_of setting before role (Full a) lawful allowed blocks = tt
-lightens_of setting before role (Empty a) lawful allowed blocks = tt
-lightens_of setting before role (Look x y z) lawful allowed blocks = tt
-lightens_of setting before role (Post x y) lawful allowed blocks = tt
+lightens_of setting before role act lawful allowed blocks = tt
 
 -- Waiting frames
 
 take_begins : (setting : Setting) (port : ℕ) (e : Entry) (phase : ReceivePhase) (b : BufId)
-    → frame_after setting port (done_in phase) ≡ Some e → MayReceiveFor setting port e phase (Take b)
-    → (begun_in (receive_after setting phase (Take b)) ≡ begun_in phase + 1)
-    × (begun_in phase < length (of_port port setting.entries))
+    → entry_after setting port (done_count phase) ≡ Some e → MayReceiveFor setting port e phase (Take b)
+    → (begun_count (receive_after setting phase (Take b)) ≡ begun_count phase + 1)
+    × (begun_count phase < length (entries_of_port port setting.entries))
 take_begins setting port e (Sees done index seen) b found may =
-    (refl, slice_get_within (of_port port setting.entries) done e found)
-take_begins setting port e (Between done) b found may = absurd may
-take_begins setting port e (Asks done k) b found may = absurd may
-take_begins setting port e (Seeks done k) b found may = absurd may
-take_begins setting port e (Took done buf) b found may = absurd may
-take_begins setting port e (Barred done buf ring) b found may = absurd may
+    (refl, slice_get_within (entries_of_port port setting.entries) done e found)
+take_begins setting port e phase b found may = absurd may
 
 abbrev left_in : Setting → ℕ → ReceivePhase → ℕ
-left_in setting port phase = length (of_port port setting.entries) - begun_in phase
+left_in setting port phase = length (entries_of_port port setting.entries) - begun_count phase
 
 falls_or_stays : (setting : Setting) (port : ℕ) (log : Log) (act : Act)
     → IsNumbered setting → MayReceive setting port log act
@@ -382,9 +276,9 @@ own_waits setting port log (Take b) numbered may =
     elim may [
       | inl mark ↦ absurd mark.1
       | inr block ↦
-          let more : (begun_in (receive_after setting (receive_phase setting log) (Take b))
-          ≡ begun_in (receive_phase setting log) + 1)
-          × (begun_in (receive_phase setting log) < length (of_port port setting.entries))
+          let more : (begun_count (receive_after setting (receive_phase setting log) (Take b))
+          ≡ begun_count (receive_phase setting log) + 1)
+          × (begun_count (receive_phase setting log) < length (entries_of_port port setting.entries))
           = take_begins setting port block.0 (receive_phase setting log) b block.1 block.2 in
           omega (arith, more.0, more.1)
     ]
@@ -399,7 +293,7 @@ own_waits setting port log (Empty a) numbered may = falls_or_stays setting port 
 own_waits setting port log (Look x y z) numbered may = falls_or_stays setting port log (Look x y z) numbered may
 own_waits setting port log (Post x y) numbered may = falls_or_stays setting port log (Post x y) numbered may
 
-no_take : (setting : Setting) (role : ℕ) (kind : Kind) (log : Log) (act : Act)
+no_take : (setting : Setting) (role : ℕ) (kind : RoleKind) (log : Log) (act : Act)
     → (kind ≡ Receives → ⊥) → MayFollow setting role kind log act
     → takes act ≡ 0
 no_take setting role kind log (Take b) other may =
@@ -408,27 +302,19 @@ no_take setting role kind log (Take b) other may =
     absurd (let one : 1 ≡ 0 =
     rw (
       eq-eqb role role refl,
-      eq-eqb (done_in (receive_phase setting log) + 1) (done_in (receive_phase setting log) + 1) refl,
+      eq-eqb (done_count (receive_phase setting log) + 1) (done_count (receive_phase setting log) + 1) refl,
     ) at none in
     omega arith)
-no_take setting role kind log (Give b outcome parcel) other may = refl
-no_take setting role kind log (Push r i) other may = refl
-no_take setting role kind log (Pop r i) other may = refl
-no_take setting role kind log (Split a) other may = refl
-no_take setting role kind log (Join a) other may = refl
-no_take setting role kind log (Full a) other may = refl
-no_take setting role kind log (Empty a) other may = refl
-no_take setting role kind log (Look x y z) other may = refl
-no_take setting role kind log (Post x y) other may = refl
+no_take setting role kind log act other may = refl
 
 waiting_apart : (setting : Setting) (step : Step) (before : History) (k : ℕ) → (k ≡ step.role → ⊥)
-    → waiting setting (step ∷ before) k ≡ waiting setting before k
+    → waiting_count setting (step ∷ before) k ≡ waiting_count setting before k
 waiting_apart setting step before k apart = rw (ne_eqb step.role k (λ e. apart (sym e))) refl
 
 waiting_step : (setting : Setting) (step : Step) (before : History)
     → IsNumbered setting → AllOfBlocks setting (step ∷ before)
-    → sum_below (waiting setting (step ∷ before)) setting.layout.ports + takes step.act
-    ≤ sum_below (waiting setting before) setting.layout.ports
+    → sum_below (waiting_count setting (step ∷ before)) setting.layout.ports + takes step.act
+    ≤ sum_below (waiting_count setting before) setting.layout.ports
 waiting_step setting step before numbered blocks =
     let own : IsOfBlocks setting step.role (step.act ∷ log_of step.role before) =
     own_blocks setting step before blocks in
@@ -438,14 +324,15 @@ waiting_step setting step before numbered blocks =
           subst (λ k. MayFollow setting step.role k (log_of step.role before) step.act)
           (kind_receives setting.layout step.role known) own.0 in
           let less : step.role < setting.layout.ports = ltb-true step.role setting.layout.ports known in
-          let now : waiting setting (step ∷ before) step.role
+          let now : waiting_count setting (step ∷ before) step.role
           ≡ left_in setting step.role (receive_phase setting (step.act ∷ log_of step.role before))
           = rw (eq-eqb step.role step.role refl) refl in
           omega (
             arith,
             now,
             own_waits setting step.role (log_of step.role before) step.act numbered may,
-            sum_change (waiting setting (step ∷ before)) (waiting setting before) setting.layout.ports step.role less
+            sum_change (waiting_count setting (step ∷ before))
+                (waiting_count setting before) setting.layout.ports step.role less
                 (waiting_apart setting step before),
           )
       | inr unknown ↦
@@ -456,8 +343,9 @@ waiting_step setting step before numbered blocks =
           omega (
             arith,
             none,
-            sum_apart (waiting setting (step ∷ before))
-                (waiting setting before) setting.layout.ports step.role past_ports (waiting_apart setting step before),
+            sum_apart (waiting_count setting (step ∷ before))
+                (waiting_count setting before) setting.layout.ports step.role past_ports
+                (waiting_apart setting step before),
           )
     ]
 

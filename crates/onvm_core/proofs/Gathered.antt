@@ -4,21 +4,21 @@ use Rattle.std.specs.Prelude.{◌==◌, ◌&&◌}
 use Rattle.std.proofs.lemmas.Bool.{cases_Bool, lt-ltb, le-ltb}
 use Rattle.onvm_base.specs.declared.ids.RingId.TheVariants.{Lane, Output, Mail}
 use Rattle.onvm_base.specs.declared.outcome.Record.{Record}
-use Rattle.onvm_core.specs.declared.layout.Word.TheVariants.{Pool as PoolWord, Cell, Post as PostWord, Weight}
+use Rattle.onvm_core.specs.declared.layout.Word.TheVariants.{Post as PostWord}
 use Rattle.onvm_core.specs.declared.step.Act.{Act}
-use Rattle.onvm_core.specs.declared.step.Act.TheVariants.{Split, Join, Take, Give, Push, Full, Pop, Empty, Look, Post}
+use Rattle.onvm_core.specs.declared.step.Act.TheVariants.{Take, Look}
 use Rattle.onvm_core.specs.declared.place.Place.{Place}
 use Rattle.onvm_core.specs.declared.place.Place.TheVariants.{Pool, Ring, Role}
 use Rattle.onvm_core.specs.History.{History, place_of}
 use Rattle.onvm_core.specs.Lawful.{IsLawful}
 use Rattle.onvm_core.specs.Places.{same_place}
-use Rattle.onvm_core.specs.Logs.{Setting, Log, feeders, log_of, of_port}
-use Rattle.onvm_core.specs.Receiving.{ReceivePhase, asked, sought, receive_after, receive_phase, done_in}
+use Rattle.onvm_core.specs.Logs.{Setting, Log, feeder_count, log_of, entries_of_port}
+use Rattle.onvm_core.specs.Receiving.{ReceivePhase, phase_after_ask, phase_after_seek, receive_after, receive_phase, done_count}
 use Rattle.onvm_core.specs.Receiving.ReceivePhase.{Between, Asks, Seeks, Sees, Took, Barred}
-use Rattle.onvm_core.specs.Blocks.{Kind, kind_of, AllOfBlocks}
-use Rattle.onvm_core.specs.Blocks.Kind.{Receives, Sends, Handles, Ticks, Leads}
-use Rattle.onvm_core.specs.Frames.{begun_in}
-use Rattle.onvm_core.specs.Potential.{sum_below, waiting, potential, outside, ring_weight, function_weight, hand_weight, potential_of_logs}
+use Rattle.onvm_core.specs.Blocks.{RoleKind, kind_of, AllOfBlocks}
+use Rattle.onvm_core.specs.Blocks.RoleKind.{Receives}
+use Rattle.onvm_core.specs.Frames.{begun_count}
+use Rattle.onvm_core.specs.Potential.{sum_below, waiting_count, potential, outside_count, ring_potential, function_potential, hand_potential, potential_of_logs}
 use Rattle.onvm_core.proofs.Loads.{pool_load}
 use Rattle.onvm_core.proofs.Hands.{IsKind, is_kind}
 use Rattle.onvm_core.proofs.Begun.{kind_receives, kind_other, mark_begins}
@@ -76,7 +76,7 @@ in_one_place functions lanes roles (Role role) w stands =
 
 stands_of : (setting : Setting) (past : History) (buf : ℕ) (there : Place)
     → IsLawful setting.layout past → AllOfBlocks setting past → place_of buf past ≡ there
-    → Stands setting.layout.functions (feeders setting)
+    → Stands setting.layout.functions (feeder_count setting)
     (setting.layout.ports + setting.layout.transmit + setting.layout.cores) there (heft setting past buf)
 stands_of setting past buf Pool lawful blocks at = rw (pool_load setting past buf at) refl
 stands_of setting past buf (Ring (Lane f feeder)) lawful blocks at =
@@ -96,39 +96,41 @@ stands_of setting past buf (Role role) lawful blocks at = holder_below setting p
 by_place : (setting : Setting) (past : History) → IsLawful setting.layout past → AllOfBlocks setting past
     → sum_below (heft setting past) (setting.layout.ports * setting.layout.buffers)
     ≡ sum_below (λ f.
-    sum_below (λ feeder. weight_there setting past (Ring (Lane (record { 0 = f }) feeder))) (feeders setting)
+    sum_below (λ feeder. weight_there setting past (Ring (Lane (record { 0 = f }) feeder))) (feeder_count setting)
     + weight_there setting past (Ring (Output (record { 0 = f })))) setting.layout.functions
     + sum_below (λ role. weight_there setting past (Role role))
     (setting.layout.ports + setting.layout.transmit + setting.layout.cores)
 by_place setting past lawful blocks =
     sum_same (heft setting past) (λ buf.
-    in_rings setting.layout.functions (feeders setting) (place_of buf past) (heft setting past buf)
+    in_rings setting.layout.functions (feeder_count setting) (place_of buf past) (heft setting past buf)
     + in_roles (setting.layout.ports + setting.layout.transmit + setting.layout.cores) (place_of buf past)
     (heft setting past buf))
     (setting.layout.ports * setting.layout.buffers)
     (λ buf less.
-    in_one_place setting.layout.functions (feeders setting)
+    in_one_place setting.layout.functions (feeder_count setting)
     (setting.layout.ports + setting.layout.transmit + setting.layout.cores) (place_of buf past) (heft setting past buf)
     (stands_of setting past buf (place_of buf past) lawful blocks refl))
     ∙ sum_regroup (λ f feeder buf.
     pick (same_place (place_of buf past) (Ring (Lane (record { 0 = f }) feeder))) (heft setting past buf))
     (λ f buf. pick (same_place (place_of buf past) (Ring (Output (record { 0 = f })))) (heft setting past buf))
     (λ role buf. pick (same_place (place_of buf past) (Role role)) (heft setting past buf))
-    setting.layout.functions (feeders setting) (setting.layout.ports + setting.layout.transmit + setting.layout.cores)
+    setting.layout.functions (feeder_count setting)
+    (setting.layout.ports + setting.layout.transmit + setting.layout.cores)
     (setting.layout.ports * setting.layout.buffers)
 
 function_weighs : (setting : Setting) (past : History) → IsLawful setting.layout past → (f : ℕ)
-    → sum_below (λ feeder. weight_there setting past (Ring (Lane (record { 0 = f }) feeder))) (feeders setting)
+    → sum_below (λ feeder. weight_there setting past (Ring (Lane (record { 0 = f }) feeder))) (feeder_count setting)
     + weight_there setting past (Ring (Output (record { 0 = f })))
-    ≡ function_weight setting (λ role. log_of role past) f
+    ≡ function_potential setting (λ role. log_of role past) f
 function_weighs setting past lawful f =
     ap (λ (s : ℕ). s + weight_there setting past (Ring (Output (record { 0 = f }))))
     (sum_same (λ feeder. weight_there setting past (Ring (Lane (record { 0 = f }) feeder)))
-    (λ feeder. ring_weight setting (λ role. log_of role past) (Lane (record { 0 = f }) feeder)) (feeders setting)
+    (λ feeder. ring_potential setting (λ role. log_of role past) (Lane (record { 0 = f }) feeder))
+    (feeder_count setting)
     (λ feeder less. ring_weighs setting past lawful (Lane (record { 0 = f }) feeder)))
     ∙ ap (λ (s : ℕ).
-    sum_below (λ feeder. ring_weight setting (λ role. log_of role past) (Lane (record { 0 = f }) feeder))
-    (feeders setting)
+    sum_below (λ feeder. ring_potential setting (λ role. log_of role past) (Lane (record { 0 = f }) feeder))
+    (feeder_count setting)
     + s)
     (ring_weighs setting past lawful (Output (record { 0 = f })))
 
@@ -136,11 +138,11 @@ abbrev taken_of : Setting → History → ℕ → ℕ
 taken_of setting past role = taken_by setting (kind_of setting.layout role) (log_of role past)
 
 abbrev hand_of : Setting → History → ℕ → ℕ
-hand_of setting past role = hand_weight (kind_of setting.layout role) (log_of role past)
+hand_of setting past role = hand_potential (kind_of setting.layout role) (log_of role past)
 
 buffers_weigh : (setting : Setting) (past : History) → IsLawful setting.layout past → AllOfBlocks setting past
     → sum_below (heft setting past) (setting.layout.ports * setting.layout.buffers)
-    ≡ sum_below (function_weight setting (λ role. log_of role past)) setting.layout.functions
+    ≡ sum_below (function_potential setting (λ role. log_of role past)) setting.layout.functions
     + sum_below (λ role. taken_of setting past role + hand_of setting past role)
     (setting.layout.ports + setting.layout.transmit + setting.layout.cores)
 buffers_weigh setting past lawful blocks =
@@ -150,11 +152,11 @@ buffers_weigh setting past lawful blocks =
     + sum_below (λ role. weight_there setting past (Role role))
     (setting.layout.ports + setting.layout.transmit + setting.layout.cores))
     (sum_same (λ f. sum_below (λ feeder. weight_there setting past (Ring (Lane (record { 0 = f }) feeder)))
-    (feeders setting)
+    (feeder_count setting)
     + weight_there setting past (Ring (Output (record { 0 = f }))))
-    (function_weight setting (λ role. log_of role past)) setting.layout.functions
+    (function_potential setting (λ role. log_of role past)) setting.layout.functions
     (λ f less. function_weighs setting past lawful f))
-    ∙ ap (λ (s : ℕ). sum_below (function_weight setting (λ role. log_of role past)) setting.layout.functions + s)
+    ∙ ap (λ (s : ℕ). sum_below (function_potential setting (λ role. log_of role past)) setting.layout.functions + s)
     (sum_same (λ role. weight_there setting past (Role role))
     (λ role. taken_of setting past role + hand_of setting past role)
     (setting.layout.ports + setting.layout.transmit + setting.layout.cores)
@@ -162,86 +164,34 @@ buffers_weigh setting past lawful blocks =
 
 -- Frames outside
 
-asked_more : (setting : Setting) (done k : ℕ) (told : Option Record) → begun_in (asked setting done k told) ≤ done + 1
+asked_more : (setting : Setting) (done k : ℕ) (told : Option Record)
+    → begun_count (phase_after_ask setting done k told) ≤ done + 1
 asked_more setting done k None =
-    elim (cases_Bool (k + 1 == feeders setting)) [ inl met ↦ rw met (omega arith) | inr unmet ↦ rw unmet (omega arith) ]
+    elim (cases_Bool (k + 1 == feeder_count setting)) [
+      | inl met ↦ rw met (omega arith)
+      | inr unmet ↦ rw unmet (omega arith)
+    ]
 asked_more setting done k (Some told) = omega arith
 
-sought_more : (done k seen : ℕ) (told : Option Record) → begun_in (sought done k seen told) ≤ done + 1
+sought_more : (done k seen : ℕ) (told : Option Record) → begun_count (phase_after_seek done k seen told) ≤ done + 1
 sought_more done k seen None =
     elim (cases_Bool (seen == 0)) [ inl met ↦ rw met (omega arith) | inr unmet ↦ rw unmet (omega arith) ]
 sought_more done k seen (Some told) = omega arith
 
 -- an act begins at most the next block
 begun_more : (setting : Setting) (phase : ReceivePhase) (act : Act)
-    → begun_in (receive_after setting phase act) ≤ done_in phase + 1
-begun_more setting (Between done) (Take b) = omega arith
-begun_more setting (Between done) (Give b outcome parcel) = omega arith
-begun_more setting (Between done) (Push r i) = omega arith
-begun_more setting (Between done) (Pop r i) = omega arith
-begun_more setting (Between done) (Split a) = omega arith
-begun_more setting (Between done) (Join a) = omega arith
-begun_more setting (Between done) (Full r) = omega arith
-begun_more setting (Between done) (Empty a) = omega arith
+    → begun_count (receive_after setting phase act) ≤ done_count phase + 1
 begun_more setting (Between done) (Look (PostWord f) v t) = asked_more setting done 0 t
-begun_more setting (Between done) (Look (PoolWord f g) v t) = omega arith
-begun_more setting (Between done) (Look (Cell f g) v t) = omega arith
-begun_more setting (Between done) (Look (Weight f) v t) = omega arith
-begun_more setting (Between done) (Post a b) = omega arith
-begun_more setting (Asks done k) (Take b) = omega arith
-begun_more setting (Asks done k) (Give b outcome parcel) = omega arith
-begun_more setting (Asks done k) (Push r i) = omega arith
-begun_more setting (Asks done k) (Pop r i) = omega arith
-begun_more setting (Asks done k) (Split a) = omega arith
-begun_more setting (Asks done k) (Join a) = omega arith
-begun_more setting (Asks done k) (Full r) = omega arith
-begun_more setting (Asks done k) (Empty a) = omega arith
 begun_more setting (Asks done k) (Look w v t) = asked_more setting done k t
-begun_more setting (Asks done k) (Post a b) = omega arith
-begun_more setting (Seeks done k) (Take b) = omega arith
-begun_more setting (Seeks done k) (Give b outcome parcel) = omega arith
-begun_more setting (Seeks done k) (Push r i) = omega arith
-begun_more setting (Seeks done k) (Pop r i) = omega arith
-begun_more setting (Seeks done k) (Split a) = omega arith
-begun_more setting (Seeks done k) (Join a) = omega arith
-begun_more setting (Seeks done k) (Full r) = omega arith
-begun_more setting (Seeks done k) (Empty a) = omega arith
 begun_more setting (Seeks done k) (Look w v t) = sought_more done k v t
-begun_more setting (Seeks done k) (Post a b) = omega arith
 begun_more setting (Sees done index seen) (Take b) = omega arith
-begun_more setting (Sees done index seen) (Give b outcome parcel) = omega arith
-begun_more setting (Sees done index seen) (Push r i) = omega arith
-begun_more setting (Sees done index seen) (Pop r i) = omega arith
-begun_more setting (Sees done index seen) (Split a) = omega arith
-begun_more setting (Sees done index seen) (Join a) = omega arith
-begun_more setting (Sees done index seen) (Full r) = omega arith
-begun_more setting (Sees done index seen) (Empty a) = omega arith
-begun_more setting (Sees done index seen) (Look w v t) = omega arith
-begun_more setting (Sees done index seen) (Post a b) = omega arith
 begun_more setting (Took done buf) (Take b) = omega arith
-begun_more setting (Took done buf) (Give b outcome parcel) = omega arith
-begun_more setting (Took done buf) (Push r i) = omega arith
-begun_more setting (Took done buf) (Pop r i) = omega arith
-begun_more setting (Took done buf) (Split a) = omega arith
-begun_more setting (Took done buf) (Join a) = omega arith
-begun_more setting (Took done buf) (Full r) = omega arith
-begun_more setting (Took done buf) (Empty a) = omega arith
-begun_more setting (Took done buf) (Look w v t) = omega arith
-begun_more setting (Took done buf) (Post a b) = omega arith
 begun_more setting (Barred done buf ring) (Take b) = omega arith
-begun_more setting (Barred done buf ring) (Give b outcome parcel) = omega arith
-begun_more setting (Barred done buf ring) (Push r i) = omega arith
-begun_more setting (Barred done buf ring) (Pop r i) = omega arith
-begun_more setting (Barred done buf ring) (Split a) = omega arith
-begun_more setting (Barred done buf ring) (Join a) = omega arith
-begun_more setting (Barred done buf ring) (Full r) = omega arith
-begun_more setting (Barred done buf ring) (Empty a) = omega arith
-begun_more setting (Barred done buf ring) (Look w v t) = omega arith
-begun_more setting (Barred done buf ring) (Post a b) = omega arith
+begun_more setting phase act = omega arith
 
 -- no block begins without a frame
 begun_within : (setting : Setting) (port : ℕ) (log : Log) → IsKind setting port Receives log
-    → begun_in (receive_phase setting log) ≤ length (of_port port setting.entries)
+    → begun_count (receive_phase setting log) ≤ length (entries_of_port port setting.entries)
 begun_within setting port [] h = omega arith
 begun_within setting port (act ∷ before) h =
     elim h.0 [
@@ -255,35 +205,31 @@ begun_within setting port (act ∷ before) h =
           omega (
             arith,
             begun_more setting (receive_phase setting before) act,
-            slice_get_within (of_port port setting.entries) (done_in (receive_phase setting before)) block.0 block.1,
+            slice_get_within (entries_of_port port setting.entries)
+                (done_count (receive_phase setting before)) block.0 block.1,
           )
     ]
 
-one_more_outside : (size : ℕ) (phase : ReceivePhase) → begun_in phase ≤ size
-    → 66 * (size - done_in phase) ≡ 66 * (size - begun_in phase) + taken_weight phase
+one_more_outside : (size : ℕ) (phase : ReceivePhase) → begun_count phase ≤ size
+    → 66 * (size - done_count phase) ≡ 66 * (size - begun_count phase) + taken_weight phase
 one_more_outside size (Between done) le = omega arith
-one_more_outside size (Asks done k) le = omega arith
-one_more_outside size (Seeks done k) le = omega arith
-one_more_outside size (Sees done index seen) le = omega arith
-one_more_outside size (Took done buf) le = omega arith
-one_more_outside size (Barred done buf ring) le = omega arith
+one_more_outside size phase le = omega arith
 
 port_outside : (setting : Setting) (past : History) (port : ℕ) → AllOfBlocks setting past → port < setting.layout.ports
-    → 66 * outside setting (λ role. log_of role past) port ≡ 66 * waiting setting past port + taken_of setting past port
+    → 66 * outside_count setting (λ role. log_of role past) port
+    ≡ 66 * waiting_count setting past port + taken_of setting past port
 port_outside setting past port blocks less =
     let receives : kind_of setting.layout port ≡ Receives =
     kind_receives setting.layout port (lt-ltb port setting.layout.ports less) in
-    one_more_outside (length (of_port port setting.entries)) (receive_phase setting (log_of port past))
+    one_more_outside (length (entries_of_port port setting.entries)) (receive_phase setting (log_of port past))
     (begun_within setting port (log_of port past)
     (is_kind setting port (log_of port past) Receives receives (blocks port)))
-    ∙ ap (λ (kind : Kind). 66 * waiting setting past port + taken_by setting kind (log_of port past)) (sym receives)
+    ∙ ap (λ (kind : RoleKind). 66 * waiting_count setting past port + taken_by setting kind (log_of port past))
+    (sym receives)
 
-none_taken : (setting : Setting) (kind : Kind) (log : Log) → (kind ≡ Receives → ⊥) → taken_by setting kind log ≡ 0
+none_taken : (setting : Setting) (kind : RoleKind) (log : Log) → (kind ≡ Receives → ⊥) → taken_by setting kind log ≡ 0
 none_taken setting Receives log other = absurd (other refl)
-none_taken setting Sends log other = refl
-none_taken setting Handles log other = refl
-none_taken setting Ticks log other = refl
-none_taken setting Leads log other = refl
+none_taken setting kind log other = refl
 
 taken_in_all : (setting : Setting) (past : History)
     → sum_below (taken_of setting past) (setting.layout.ports + setting.layout.transmit + setting.layout.cores)
@@ -304,10 +250,10 @@ assemble waits hefts outs rings both taken hands begun one two three four = omeg
 pub potential_logged : (setting : Setting) (past : History) → IsLawful setting.layout past → AllOfBlocks setting past
     → potential setting past ≡ potential_of_logs setting (λ role. log_of role past)
 potential_logged setting past lawful blocks =
-    assemble (sum_below (waiting setting past) setting.layout.ports)
+    assemble (sum_below (waiting_count setting past) setting.layout.ports)
     (sum_below (heft setting past) (setting.layout.ports * setting.layout.buffers))
-    (sum_below (outside setting (λ role. log_of role past)) setting.layout.ports)
-    (sum_below (function_weight setting (λ role. log_of role past)) setting.layout.functions)
+    (sum_below (outside_count setting (λ role. log_of role past)) setting.layout.ports)
+    (sum_below (function_potential setting (λ role. log_of role past)) setting.layout.functions)
     (sum_below (λ role. taken_of setting past role + hand_of setting past role)
     (setting.layout.ports + setting.layout.transmit + setting.layout.cores))
     (sum_below (taken_of setting past) (setting.layout.ports + setting.layout.transmit + setting.layout.cores))
@@ -317,5 +263,5 @@ potential_logged setting past lawful blocks =
     (sum_plus (taken_of setting past) (hand_of setting past)
     (setting.layout.ports + setting.layout.transmit + setting.layout.cores))
     (taken_in_all setting past)
-    (sum_more (outside setting (λ role. log_of role past)) (waiting setting past)
+    (sum_more (outside_count setting (λ role. log_of role past)) (waiting_count setting past)
     (taken_of setting past) setting.layout.ports (λ port less. port_outside setting past port blocks less))

@@ -7,23 +7,25 @@ use Rattle.onvm_base.specs.declared.ids.FrameId.{FrameId}
 use Rattle.onvm_core.specs.declared.parcel.Parcel.{Parcel}
 use Rattle.onvm_core.specs.declared.step.Item.TheVariants.{Buffer, Number}
 use Rattle.onvm_core.specs.declared.step.Act.{Act}
-use Rattle.onvm_core.specs.declared.step.Act.TheVariants.{Split, Join, Take, Give, Push, Full, Pop, Empty, Look, Post}
-use Rattle.onvm_core.specs.Logs.{Setting, Log, Hand, feeders, frame_after, entry_parcel, IsNumbered}
-use Rattle.onvm_core.specs.Receiving.{ReceivePhase, asked, sought, receive_after, receive_phase, done_in, IsBetween, IsMark, MayReceiveFor}
-use Rattle.onvm_core.specs.Handling.{core_hand, handles, MayHandle}
+use Rattle.onvm_core.specs.declared.step.Act.TheVariants.{Give, Push, Full, Pop, Empty, Look}
+use Rattle.onvm_core.specs.Logs.{Setting, Log, Hand, feeder_count, entry_after, entry_parcel, IsNumbered}
+use Rattle.onvm_core.specs.Receiving.{ReceivePhase, phase_after_ask, phase_after_seek, receive_after, receive_phase, done_count, IsBetween, IsMarkAct}
+use Rattle.onvm_core.specs.Handling.{core_hand, hand_after, MayHandle}
 use Rattle.onvm_core.specs.Sending.{SendPhase, send_after, send_phase, MaySend}
-use Rattle.onvm_core.specs.Blocks.{Kind, kind_of, MayTick, MayLead, MayFollow, IsOfBlocks}
+use Rattle.onvm_core.specs.Blocks.{RoleKind, kind_of, MayTick, MayLead, MayFollow, IsOfBlocks}
 use Rattle.onvm_core.specs.Frames.{Load, block_frame, frame_of}
 use Rattle.onvm_base.specs.declared.outcome.Record.{Record}
 use Rattle.onvm_base.specs.declared.outcome.Outcome.TheVariants.{Sent, Dropped, Throttled, RingFull, PoolEmpty}
 use Rattle.onvm_base.specs.declared.ids.RingId.TheVariants.{Lane, Output, Mail}
-use Rattle.onvm_core.specs.declared.layout.Word.TheVariants.{Pool as PoolWord, Cell, Post as PostWord, Weight}
+use Rattle.onvm_core.specs.declared.layout.Word.TheVariants.{Post as PostWord}
 use Rattle.onvm_core.specs.declared.entry.Entry.{Entry}
-use Rattle.onvm_core.specs.Receiving.ReceivePhase.{Between, Asks, Seeks, Sees, Took, Barred}
+use Rattle.onvm_core.specs.Receiving.ReceivePhase.{Between, Took, Barred}
 use Rattle.onvm_core.specs.Sending.SendPhase.{Free, Moves as Sending, TurnsBack}
-use Rattle.onvm_core.specs.Blocks.Kind.{Receives, Sends, Handles, Ticks, Leads}
+use Rattle.onvm_core.specs.Blocks.RoleKind.{Receives, Sends, Handles, Ticks, Leads}
 use Rattle.onvm_core.specs.Frames.Load.{Fresh, Loaded}
 use Rattle.onvm_core.proofs.Loads.{own_load, own_load_after}
+use Rattle.onvm_core.proofs.InBlock.{InBlock, in_block}
+use Rattle.onvm_core.proofs.InBlock.InBlock.{AsksFirst, AsksOn, SeeksOn, Takes, Enters, FindsFull, Leaves, GivesBack}
 
 -- Receive roles
 
@@ -31,112 +33,49 @@ abbrev pub HasTaken : ℕ → Option (ℕ × Load) → ReceivePhase → Type 0
 HasTaken port own (Took done buf) = own ≡ Some (buf, Fresh (record { port = record { 0 = port }; number = done + 1 }))
 HasTaken port own (Barred done buf ring) =
     own ≡ Some (buf, Fresh (record { port = record { 0 = port }; number = done + 1 }))
-HasTaken port own (Between done) = Unit {0}
-HasTaken port own (Asks done k) = Unit {0}
-HasTaken port own (Seeks done k) = Unit {0}
-HasTaken port own (Sees done index seen) = Unit {0}
+HasTaken port own phase = Unit {0}
 
 asked_free : (setting : Setting) (port done k : ℕ) (told : Option Record) (own : Option (ℕ × Load))
-    → HasTaken port own (asked setting done k told)
+    → HasTaken port own (phase_after_ask setting done k told)
 asked_free setting port done k None own =
-    elim (cases_Bool (k + 1 == feeders setting)) [ inl met ↦ rw met tt | inr unmet ↦ rw unmet tt ]
+    elim (cases_Bool (k + 1 == feeder_count setting)) [ inl met ↦ rw met tt | inr unmet ↦ rw unmet tt ]
 asked_free setting port done k (Some told) own = tt
 
 sought_free : (port done k seen : ℕ) (told : Option Record) (own : Option (ℕ × Load))
-    → HasTaken port own (sought done k seen told)
+    → HasTaken port own (phase_after_seek done k seen told)
 sought_free port done k seen None own = elim (cases_Bool (seen == 0)) [ inl met ↦ rw met tt | inr unmet ↦ rw unmet tt ]
 sought_free port done k seen (Some told) own = tt
 
 between_free : (setting : Setting) (port done : ℕ) (act : Act) (own : Option (ℕ × Load))
     → HasTaken port own (receive_after setting (Between done) act)
 between_free setting port done (Look (PostWord f) seen told) own = asked_free setting port done 0 told own
-between_free setting port done (Look (PoolWord a b) seen told) own = tt
-between_free setting port done (Look (Cell a b) seen told) own = tt
-between_free setting port done (Look (Weight a) seen told) own = tt
-between_free setting port done (Take a) own = tt
-between_free setting port done (Give a b c) own = tt
-between_free setting port done (Push a b) own = tt
-between_free setting port done (Pop a b) own = tt
-between_free setting port done (Split a) own = tt
-between_free setting port done (Join a) own = tt
-between_free setting port done (Full a) own = tt
-between_free setting port done (Empty a) own = tt
-between_free setting port done (Post a b) own = tt
+between_free setting port done act own = tt
 
 receive_for : (setting : Setting) (port : ℕ) (e : Entry) (phase : ReceivePhase) (act : Act) (own : Option (ℕ × Load))
-    → HasTaken port own phase → MayReceiveFor setting port e phase act
-    → HasTaken port (own_load_after (record { port = record { 0 = port }; number = done_in phase + 1 }) act own)
+    → HasTaken port own phase → InBlock setting port e phase act
+    → HasTaken port (own_load_after (record { port = record { 0 = port }; number = done_count phase + 1 }) act own)
     (receive_after setting phase act)
-receive_for setting port e (Between done) act own h may =
-    between_free setting port done act
-    (own_load_after (record { port = record { 0 = port }; number = done + 1 }) act own)
-receive_for setting port e (Asks done k) (Take b) own h may = tt
-receive_for setting port e (Asks done k) (Give b outcome parcel) own h may = tt
-receive_for setting port e (Asks done k) (Push r i) own h may = tt
-receive_for setting port e (Asks done k) (Pop r i) own h may = tt
-receive_for setting port e (Asks done k) (Split a) own h may = tt
-receive_for setting port e (Asks done k) (Join a) own h may = tt
-receive_for setting port e (Asks done k) (Full r) own h may = tt
-receive_for setting port e (Asks done k) (Empty a) own h may = tt
-receive_for setting port e (Asks done k) (Look w v t) own h may = asked_free setting port done k t own
-receive_for setting port e (Asks done k) (Post a b) own h may = tt
-receive_for setting port e (Seeks done k) (Take b) own h may = tt
-receive_for setting port e (Seeks done k) (Give b outcome parcel) own h may = tt
-receive_for setting port e (Seeks done k) (Push r i) own h may = tt
-receive_for setting port e (Seeks done k) (Pop r i) own h may = tt
-receive_for setting port e (Seeks done k) (Split a) own h may = tt
-receive_for setting port e (Seeks done k) (Join a) own h may = tt
-receive_for setting port e (Seeks done k) (Full r) own h may = tt
-receive_for setting port e (Seeks done k) (Empty a) own h may = tt
-receive_for setting port e (Seeks done k) (Look w v t) own h may = sought_free port done k v t own
-receive_for setting port e (Seeks done k) (Post a b) own h may = tt
-receive_for setting port e (Sees done index seen) (Take b) own h may = refl
-receive_for setting port e (Sees done index seen) (Give b outcome parcel) own h may = tt
-receive_for setting port e (Sees done index seen) (Push r i) own h may = tt
-receive_for setting port e (Sees done index seen) (Pop r i) own h may = tt
-receive_for setting port e (Sees done index seen) (Split a) own h may = tt
-receive_for setting port e (Sees done index seen) (Join a) own h may = tt
-receive_for setting port e (Sees done index seen) (Full r) own h may = tt
-receive_for setting port e (Sees done index seen) (Empty a) own h may = tt
-receive_for setting port e (Sees done index seen) (Look w v t) own h may = tt
-receive_for setting port e (Sees done index seen) (Post a b) own h may = tt
-receive_for setting port e (Took done buf) (Take b) own h may = absurd may
-receive_for setting port e (Took done buf) (Give b outcome parcel) own h may = tt
-receive_for setting port e (Took done buf) (Push r i) own h may = tt
-receive_for setting port e (Took done buf) (Pop r i) own h may = absurd may
-receive_for setting port e (Took done buf) (Split a) own h may = absurd may
-receive_for setting port e (Took done buf) (Join a) own h may = absurd may
-receive_for setting port e (Took done buf) (Full r) own h may = h
-receive_for setting port e (Took done buf) (Empty a) own h may = absurd may
-receive_for setting port e (Took done buf) (Look w v t) own h may = absurd may
-receive_for setting port e (Took done buf) (Post a b) own h may = absurd may
-receive_for setting port e (Barred done buf ring) (Take b) own h may = absurd may
-receive_for setting port e (Barred done buf ring) (Give b outcome parcel) own h may = tt
-receive_for setting port e (Barred done buf ring) (Push r i) own h may = absurd may
-receive_for setting port e (Barred done buf ring) (Pop r i) own h may = absurd may
-receive_for setting port e (Barred done buf ring) (Split a) own h may = absurd may
-receive_for setting port e (Barred done buf ring) (Join a) own h may = absurd may
-receive_for setting port e (Barred done buf ring) (Full r) own h may = absurd may
-receive_for setting port e (Barred done buf ring) (Empty a) own h may = absurd may
-receive_for setting port e (Barred done buf ring) (Look w v t) own h may = absurd may
-receive_for setting port e (Barred done buf ring) (Post a b) own h may = absurd may
+receive_for setting port e phase act own h (AsksFirst done f v t may) = asked_free setting port done 0 t own
+receive_for setting port e phase act own h (AsksOn done k w v t may) = asked_free setting port done k t own
+receive_for setting port e phase act own h (SeeksOn done k w v t may) = sought_free port done k v t own
+receive_for setting port e phase act own h (Takes done index seen b may) = refl
+receive_for setting port e phase act own h (Enters done buf ring b parcel may) = tt
+receive_for setting port e phase act own h (FindsFull done buf ring may) = h
+receive_for setting port e phase act own h (Leaves done buf b q parcel may) = tt
+receive_for setting port e phase act own h (GivesBack done buf ring b outcome parcel may) = tt
 
 receive_mark : (setting : Setting) (port : ℕ) (phase : ReceivePhase) (act : Act) (own after : Option (ℕ × Load))
     → IsBetween phase
     → HasTaken port after (receive_after setting phase act)
 receive_mark setting port (Between done) act own after h = between_free setting port done act after
-receive_mark setting port (Asks done k) act own after h = absurd h
-receive_mark setting port (Seeks done k) act own after h = absurd h
-receive_mark setting port (Sees done index seen) act own after h = absurd h
-receive_mark setting port (Took done buf) act own after h = absurd h
-receive_mark setting port (Barred done buf ring) act own after h = absurd h
+receive_mark setting port phase act own after h = absurd h
 
 -- the log is of this kind
-abbrev pub IsKind : Setting → ℕ → Kind → Log → Type 0
+abbrev pub IsKind : Setting → ℕ → RoleKind → Log → Type 0
 IsKind setting role kind [] = Unit {0}
 IsKind setting role kind (act ∷ before) = MayFollow setting role kind before act × IsKind setting role kind before
 
-pub is_kind : (setting : Setting) (role : ℕ) (log : Log) (kind : Kind)
+pub is_kind : (setting : Setting) (role : ℕ) (log : Log) (kind : RoleKind)
     → kind_of setting.layout role ≡ kind → IsOfBlocks setting role log
     → IsKind setting role kind log
 is_kind setting role [] kind e h = tt
@@ -153,7 +92,8 @@ receive_has setting port (act ∷ before) h =
           (own_load setting port (act ∷ before)) mark.0
       | inr block ↦
           receive_for setting port block.0 (receive_phase setting before) act (own_load setting port before)
-          (receive_has setting port before h.1) block.2
+          (receive_has setting port before h.1)
+          (in_block setting port block.0 (receive_phase setting before) act block.2)
     ]
 
 -- Cores
@@ -164,23 +104,14 @@ HasHand own (Some hand) = own ≡ Some (hand.buf, Loaded hand.parcel)
 
 core_step : (setting : Setting) (role : ℕ) (before : Log) (act : Act) (fresh : FrameId) (own : Option (ℕ × Load))
     (hand : Option Hand) → MayHandle setting role before act → HasHand own hand
-    → HasHand (own_load_after fresh act own) (handles act hand)
+    → HasHand (own_load_after fresh act own) (hand_after act hand)
 core_step setting role before (Pop (Lane f p) (Buffer b parcel)) fresh own hand may h = refl
-core_step setting role before (Pop (Lane f p) (Number n)) fresh own hand may h = absurd may
-core_step setting role before (Pop (Output f) item) fresh own hand may h = absurd may
-core_step setting role before (Pop (Mail f) item) fresh own hand may h = absurd may
 core_step setting role before (Push (Output f) item) fresh own hand may h = tt
 core_step setting role before (Push (Mail f) (Number n)) fresh own hand may h = h
-core_step setting role before (Push (Mail f) (Buffer b parcel)) fresh own hand may h = absurd may
-core_step setting role before (Push (Lane f p) item) fresh own hand may h = absurd may
 core_step setting role before (Full a) fresh own hand may h = h
 core_step setting role before (Empty a) fresh own hand may h = h
 core_step setting role before (Look a b c) fresh own hand may h = h
-core_step setting role before (Take a) fresh own hand may h = absurd may
-core_step setting role before (Give a b c) fresh own hand may h = absurd may
-core_step setting role before (Split a) fresh own hand may h = absurd may
-core_step setting role before (Join a) fresh own hand may h = absurd may
-core_step setting role before (Post a b) fresh own hand may h = absurd may
+core_step setting role before act fresh own hand may h = absurd may
 
 pub core_has : (setting : Setting) (role : ℕ) (log : Log) → IsKind setting role Handles log
     → HasHand (own_load setting role log) (core_hand log)
@@ -200,38 +131,12 @@ send_step : (setting : Setting) (feeder : ℕ) (phase : SendPhase) (act : Act) (
     → MaySend setting feeder phase act → HasSend own phase
     → HasSend (own_load_after fresh act own) (send_after phase act)
 send_step setting feeder Free (Pop (Output f) (Buffer b parcel)) fresh own may h = refl
-send_step setting feeder Free (Pop (Output f) (Number n)) fresh own may h = tt
-send_step setting feeder Free (Pop (Lane f p) item) fresh own may h = tt
-send_step setting feeder Free (Pop (Mail f) item) fresh own may h = tt
-send_step setting feeder Free (Take b) fresh own may h = tt
-send_step setting feeder Free (Give b outcome parcel) fresh own may h = tt
-send_step setting feeder Free (Push r i) fresh own may h = tt
-send_step setting feeder Free (Split a) fresh own may h = tt
-send_step setting feeder Free (Join a) fresh own may h = tt
-send_step setting feeder Free (Full r) fresh own may h = tt
-send_step setting feeder Free (Empty a) fresh own may h = tt
-send_step setting feeder Free (Look w v t) fresh own may h = tt
-send_step setting feeder Free (Post a b) fresh own may h = tt
-send_step setting feeder (Sending hand) (Take b) fresh own may h = absurd may
+send_step setting feeder Free act fresh own may h = tt
 send_step setting feeder (Sending hand) (Give b outcome parcel) fresh own may h = tt
 send_step setting feeder (Sending hand) (Push r i) fresh own may h = tt
-send_step setting feeder (Sending hand) (Pop r i) fresh own may h = absurd may
-send_step setting feeder (Sending hand) (Split a) fresh own may h = absurd may
-send_step setting feeder (Sending hand) (Join a) fresh own may h = absurd may
 send_step setting feeder (Sending hand) (Full r) fresh own may h = h
-send_step setting feeder (Sending hand) (Empty a) fresh own may h = absurd may
-send_step setting feeder (Sending hand) (Look w v t) fresh own may h = absurd may
-send_step setting feeder (Sending hand) (Post a b) fresh own may h = absurd may
-send_step setting feeder (TurnsBack hand ring) (Take b) fresh own may h = absurd may
 send_step setting feeder (TurnsBack hand ring) (Give b outcome parcel) fresh own may h = tt
-send_step setting feeder (TurnsBack hand ring) (Push r i) fresh own may h = absurd may
-send_step setting feeder (TurnsBack hand ring) (Pop r i) fresh own may h = absurd may
-send_step setting feeder (TurnsBack hand ring) (Split a) fresh own may h = absurd may
-send_step setting feeder (TurnsBack hand ring) (Join a) fresh own may h = absurd may
-send_step setting feeder (TurnsBack hand ring) (Full r) fresh own may h = absurd may
-send_step setting feeder (TurnsBack hand ring) (Empty a) fresh own may h = absurd may
-send_step setting feeder (TurnsBack hand ring) (Look w v t) fresh own may h = absurd may
-send_step setting feeder (TurnsBack hand ring) (Post a b) fresh own may h = absurd may
+send_step setting feeder phase act fresh own may h = absurd may
 
 pub send_has : (setting : Setting) (role : ℕ) (log : Log) → IsKind setting role Sends log
     → HasSend (own_load setting role log) (send_phase log)
@@ -253,7 +158,7 @@ LetsGo own _ = Unit {0}
 
 fresh_carries : (setting : Setting) (port done buf : ℕ) (own : Option (ℕ × Load)) (e : Entry) (b : BufId)
     (parcel : Parcel)
-    → IsNumbered setting → frame_after setting port done ≡ Some e
+    → IsNumbered setting → entry_after setting port done ≡ Some e
     → own ≡ Some (buf, Fresh (record { port = record { 0 = port }; number = done + 1 })) → b.0 ≡ buf
     → parcel ≡ entry_parcel e
     → Carries own b.0 parcel.frame
@@ -264,96 +169,26 @@ fresh_carries setting port done buf own e b parcel numbered found h one two = (
 )
 
 receive_lets : (setting : Setting) (port : ℕ) (e : Entry) (phase : ReceivePhase) (act : Act) (own : Option (ℕ × Load))
-    → IsNumbered setting → frame_after setting port (done_in phase) ≡ Some e → HasTaken port own phase
-    → MayReceiveFor setting port e phase act
+    → IsNumbered setting → entry_after setting port (done_count phase) ≡ Some e → HasTaken port own phase
+    → InBlock setting port e phase act
     → LetsGo own act
-receive_lets setting port e (Between done) (Take b) own numbered found h may = tt
-receive_lets setting port e (Between done) (Give b outcome parcel) own numbered found h may = absurd may
-receive_lets setting port e (Between done) (Push r (Buffer b parcel)) own numbered found h may = absurd may
-receive_lets setting port e (Between done) (Push r (Number n)) own numbered found h may = tt
-receive_lets setting port e (Between done) (Pop r i) own numbered found h may = tt
-receive_lets setting port e (Between done) (Split a) own numbered found h may = tt
-receive_lets setting port e (Between done) (Join a) own numbered found h may = tt
-receive_lets setting port e (Between done) (Full r) own numbered found h may = tt
-receive_lets setting port e (Between done) (Empty a) own numbered found h may = tt
-receive_lets setting port e (Between done) (Look w v t) own numbered found h may = tt
-receive_lets setting port e (Between done) (Post a b) own numbered found h may = tt
-receive_lets setting port e (Asks done k) (Take b) own numbered found h may = tt
-receive_lets setting port e (Asks done k) (Give b outcome parcel) own numbered found h may = absurd may
-receive_lets setting port e (Asks done k) (Push r (Buffer b parcel)) own numbered found h may = absurd may
-receive_lets setting port e (Asks done k) (Push r (Number n)) own numbered found h may = tt
-receive_lets setting port e (Asks done k) (Pop r i) own numbered found h may = tt
-receive_lets setting port e (Asks done k) (Split a) own numbered found h may = tt
-receive_lets setting port e (Asks done k) (Join a) own numbered found h may = tt
-receive_lets setting port e (Asks done k) (Full r) own numbered found h may = tt
-receive_lets setting port e (Asks done k) (Empty a) own numbered found h may = tt
-receive_lets setting port e (Asks done k) (Look w v t) own numbered found h may = tt
-receive_lets setting port e (Asks done k) (Post a b) own numbered found h may = tt
-receive_lets setting port e (Seeks done k) (Take b) own numbered found h may = tt
-receive_lets setting port e (Seeks done k) (Give b outcome parcel) own numbered found h may = absurd may
-receive_lets setting port e (Seeks done k) (Push r (Buffer b parcel)) own numbered found h may = absurd may
-receive_lets setting port e (Seeks done k) (Push r (Number n)) own numbered found h may = tt
-receive_lets setting port e (Seeks done k) (Pop r i) own numbered found h may = tt
-receive_lets setting port e (Seeks done k) (Split a) own numbered found h may = tt
-receive_lets setting port e (Seeks done k) (Join a) own numbered found h may = tt
-receive_lets setting port e (Seeks done k) (Full r) own numbered found h may = tt
-receive_lets setting port e (Seeks done k) (Empty a) own numbered found h may = tt
-receive_lets setting port e (Seeks done k) (Look w v t) own numbered found h may = tt
-receive_lets setting port e (Seeks done k) (Post a b) own numbered found h may = tt
-receive_lets setting port e (Sees done index seen) (Take b) own numbered found h may = tt
-receive_lets setting port e (Sees done index seen) (Give b outcome parcel) own numbered found h may = absurd may
-receive_lets setting port e (Sees done index seen) (Push r (Buffer b parcel)) own numbered found h may = absurd may
-receive_lets setting port e (Sees done index seen) (Push r (Number n)) own numbered found h may = tt
-receive_lets setting port e (Sees done index seen) (Pop r i) own numbered found h may = tt
-receive_lets setting port e (Sees done index seen) (Split a) own numbered found h may = tt
-receive_lets setting port e (Sees done index seen) (Join a) own numbered found h may = tt
-receive_lets setting port e (Sees done index seen) (Full r) own numbered found h may = tt
-receive_lets setting port e (Sees done index seen) (Empty a) own numbered found h may = tt
-receive_lets setting port e (Sees done index seen) (Look w v t) own numbered found h may = tt
-receive_lets setting port e (Sees done index seen) (Post a b) own numbered found h may = tt
-receive_lets setting port e (Took done buf) (Take b) own numbered found h may = tt
-receive_lets setting port e (Took done buf) (Give b (Sent q) parcel) own numbered found h may =
+receive_lets setting port e phase act own numbered found h (AsksFirst done f v t may) = tt
+receive_lets setting port e phase act own numbered found h (AsksOn done k w v t may) = tt
+receive_lets setting port e phase act own numbered found h (SeeksOn done k w v t may) = tt
+receive_lets setting port e phase act own numbered found h (Takes done index seen b may) = tt
+receive_lets setting port e phase act own numbered found h (FindsFull done buf ring may) = tt
+receive_lets setting port e phase act own numbered found h (Enters done buf ring b parcel may) =
     fresh_carries setting port done buf own e b parcel numbered found h may.0 may.1
-receive_lets setting port e (Took done buf) (Give b (Dropped f w) parcel) own numbered found h may = absurd may
-receive_lets setting port e (Took done buf) (Give b (Throttled a c d) parcel) own numbered found h may = absurd may
-receive_lets setting port e (Took done buf) (Give b (RingFull r) parcel) own numbered found h may = absurd may
-receive_lets setting port e (Took done buf) (Give b (PoolEmpty) parcel) own numbered found h may = absurd may
-receive_lets setting port e (Took done buf) (Push r (Buffer b parcel)) own numbered found h may =
+receive_lets setting port e phase act own numbered found h (Leaves done buf b q parcel may) =
     fresh_carries setting port done buf own e b parcel numbered found h may.0 may.1
-receive_lets setting port e (Took done buf) (Push r (Number n)) own numbered found h may = tt
-receive_lets setting port e (Took done buf) (Pop r i) own numbered found h may = tt
-receive_lets setting port e (Took done buf) (Split a) own numbered found h may = tt
-receive_lets setting port e (Took done buf) (Join a) own numbered found h may = tt
-receive_lets setting port e (Took done buf) (Full r) own numbered found h may = tt
-receive_lets setting port e (Took done buf) (Empty a) own numbered found h may = tt
-receive_lets setting port e (Took done buf) (Look w v t) own numbered found h may = tt
-receive_lets setting port e (Took done buf) (Post a b) own numbered found h may = tt
-receive_lets setting port e (Barred done buf ring) (Take b) own numbered found h may = tt
-receive_lets setting port e (Barred done buf ring) (Give b outcome parcel) own numbered found h may =
+receive_lets setting port e phase act own numbered found h (GivesBack done buf ring b outcome parcel may) =
     fresh_carries setting port done buf own e b parcel numbered found h may.0 may.2
-receive_lets setting port e (Barred done buf ring) (Push r (Buffer b parcel)) own numbered found h may = absurd may
-receive_lets setting port e (Barred done buf ring) (Push r (Number n)) own numbered found h may = tt
-receive_lets setting port e (Barred done buf ring) (Pop r i) own numbered found h may = tt
-receive_lets setting port e (Barred done buf ring) (Split a) own numbered found h may = tt
-receive_lets setting port e (Barred done buf ring) (Join a) own numbered found h may = tt
-receive_lets setting port e (Barred done buf ring) (Full r) own numbered found h may = tt
-receive_lets setting port e (Barred done buf ring) (Empty a) own numbered found h may = tt
-receive_lets setting port e (Barred done buf ring) (Look w v t) own numbered found h may = tt
-receive_lets setting port e (Barred done buf ring) (Post a b) own numbered found h may = tt
 
-mark_lets : (setting : Setting) (feeder : ℕ) (act : Act) (own : Option (ℕ × Load)) → IsMark setting feeder act
+mark_lets : (setting : Setting) (feeder : ℕ) (act : Act) (own : Option (ℕ × Load)) → IsMarkAct setting feeder act
     → LetsGo own act
-mark_lets setting feeder (Take b) own may = tt
 mark_lets setting feeder (Give b outcome parcel) own may = absurd may
 mark_lets setting feeder (Push r (Buffer b parcel)) own may = absurd may
-mark_lets setting feeder (Push r (Number n)) own may = tt
-mark_lets setting feeder (Pop r i) own may = tt
-mark_lets setting feeder (Split a) own may = tt
-mark_lets setting feeder (Join a) own may = tt
-mark_lets setting feeder (Full r) own may = tt
-mark_lets setting feeder (Empty a) own may = tt
-mark_lets setting feeder (Look w v t) own may = tt
-mark_lets setting feeder (Post a b) own may = tt
+mark_lets setting feeder act own may = tt
 
 loaded_carries : (own : Option (ℕ × Load)) (hand : Hand) (b : BufId) (frame : FrameId)
     → own ≡ Some (hand.buf, Loaded hand.parcel) → hand.buf ≡ b.0 → hand.parcel.frame ≡ frame
@@ -369,32 +204,14 @@ core_lets setting role before (Push (Output f) (Buffer b parcel)) own h may =
     (sym (ap (λ (p : Parcel). p.frame) may.handled.same))
 core_lets setting role before (Push (Mail f) (Buffer b parcel)) own h may = absurd may
 core_lets setting role before (Push (Lane f p) (Buffer b parcel)) own h may = absurd may
-core_lets setting role before (Take b) own h may = tt
 core_lets setting role before (Give b outcome parcel) own h may = absurd may
-core_lets setting role before (Push r (Number n)) own h may = tt
-core_lets setting role before (Pop r i) own h may = tt
-core_lets setting role before (Split a) own h may = tt
-core_lets setting role before (Join a) own h may = tt
-core_lets setting role before (Full r) own h may = tt
-core_lets setting role before (Empty a) own h may = tt
-core_lets setting role before (Look w v t) own h may = tt
-core_lets setting role before (Post a b) own h may = tt
+core_lets setting role before act own h may = tt
 
 send_lets : (setting : Setting) (feeder : ℕ) (phase : SendPhase) (act : Act) (own : Option (ℕ × Load))
     → HasSend own phase → MaySend setting feeder phase act
     → LetsGo own act
-send_lets setting feeder Free (Take b) own h may = tt
 send_lets setting feeder Free (Give b outcome parcel) own h may = absurd may
 send_lets setting feeder Free (Push r (Buffer b parcel)) own h may = absurd may
-send_lets setting feeder Free (Push r (Number n)) own h may = tt
-send_lets setting feeder Free (Pop r i) own h may = tt
-send_lets setting feeder Free (Split a) own h may = tt
-send_lets setting feeder Free (Join a) own h may = tt
-send_lets setting feeder Free (Full r) own h may = tt
-send_lets setting feeder Free (Empty a) own h may = tt
-send_lets setting feeder Free (Look w v t) own h may = tt
-send_lets setting feeder Free (Post a b) own h may = tt
-send_lets setting feeder (Sending hand) (Take b) own h may = tt
 send_lets setting feeder (Sending hand) (Give b (Sent q) parcel) own h may =
     loaded_carries own hand b parcel.frame h (sym may.0) (ap (λ (p : Parcel). p.frame) (sym may.2))
 send_lets setting feeder (Sending hand) (Give b (Dropped f w) parcel) own h may =
@@ -404,54 +221,22 @@ send_lets setting feeder (Sending hand) (Give b (RingFull r) parcel) own h may =
 send_lets setting feeder (Sending hand) (Give b (PoolEmpty) parcel) own h may = absurd may
 send_lets setting feeder (Sending hand) (Push r (Buffer b parcel)) own h may =
     loaded_carries own hand b parcel.frame h (sym may.0) (ap (λ (p : Parcel). p.frame) (sym may.1.2))
-send_lets setting feeder (Sending hand) (Push r (Number n)) own h may = tt
-send_lets setting feeder (Sending hand) (Pop r i) own h may = tt
-send_lets setting feeder (Sending hand) (Split a) own h may = tt
-send_lets setting feeder (Sending hand) (Join a) own h may = tt
-send_lets setting feeder (Sending hand) (Full r) own h may = tt
-send_lets setting feeder (Sending hand) (Empty a) own h may = tt
-send_lets setting feeder (Sending hand) (Look w v t) own h may = tt
-send_lets setting feeder (Sending hand) (Post a b) own h may = tt
-send_lets setting feeder (TurnsBack hand ring) (Take b) own h may = tt
 send_lets setting feeder (TurnsBack hand ring) (Give b outcome parcel) own h may =
     loaded_carries own hand b parcel.frame h (sym may.0) (ap (λ (p : Parcel). p.frame) (sym may.2.2))
 send_lets setting feeder (TurnsBack hand ring) (Push r (Buffer b parcel)) own h may = absurd may
-send_lets setting feeder (TurnsBack hand ring) (Push r (Number n)) own h may = tt
-send_lets setting feeder (TurnsBack hand ring) (Pop r i) own h may = tt
-send_lets setting feeder (TurnsBack hand ring) (Split a) own h may = tt
-send_lets setting feeder (TurnsBack hand ring) (Join a) own h may = tt
-send_lets setting feeder (TurnsBack hand ring) (Full r) own h may = tt
-send_lets setting feeder (TurnsBack hand ring) (Empty a) own h may = tt
-send_lets setting feeder (TurnsBack hand ring) (Look w v t) own h may = tt
-send_lets setting feeder (TurnsBack hand ring) (Post a b) own h may = tt
+send_lets setting feeder phase act own h may = tt
 
 tick_lets : (setting : Setting) (act : Act) (own : Option (ℕ × Load)) → MayTick setting act → LetsGo own act
-tick_lets setting (Take b) own may = tt
 tick_lets setting (Give b outcome parcel) own may = absurd may
 tick_lets setting (Push r (Buffer b parcel)) own may = absurd may
-tick_lets setting (Push r (Number n)) own may = tt
-tick_lets setting (Pop r i) own may = tt
-tick_lets setting (Split a) own may = tt
-tick_lets setting (Join a) own may = tt
-tick_lets setting (Full r) own may = tt
-tick_lets setting (Empty a) own may = tt
-tick_lets setting (Look w v t) own may = tt
-tick_lets setting (Post a b) own may = tt
+tick_lets setting act own may = tt
 
 lead_lets : (act : Act) (own : Option (ℕ × Load)) → MayLead act → LetsGo own act
-lead_lets (Take b) own may = tt
 lead_lets (Give b outcome parcel) own may = absurd may
 lead_lets (Push r (Buffer b parcel)) own may = absurd may
-lead_lets (Push r (Number n)) own may = tt
-lead_lets (Pop r i) own may = tt
-lead_lets (Split a) own may = tt
-lead_lets (Join a) own may = tt
-lead_lets (Full r) own may = tt
-lead_lets (Empty a) own may = tt
-lead_lets (Look w v t) own may = tt
-lead_lets (Post a b) own may = tt
+lead_lets act own may = tt
 
-by_kind : (setting : Setting) (role : ℕ) (kind : Kind) (log : Log) (act : Act)
+by_kind : (setting : Setting) (role : ℕ) (kind : RoleKind) (log : Log) (act : Act)
     → IsNumbered setting → IsKind setting role kind (act ∷ log)
     → LetsGo (own_load setting role log) act
 by_kind setting role Receives log act numbered h =
@@ -459,7 +244,7 @@ by_kind setting role Receives log act numbered h =
       | inl mark ↦ mark_lets setting role act (own_load setting role log) mark.1
       | inr block ↦
           receive_lets setting role block.0 (receive_phase setting log) act (own_load setting role log) numbered block.1
-          (receive_has setting role log h.1) block.2
+          (receive_has setting role log h.1) (in_block setting role block.0 (receive_phase setting log) act block.2)
     ]
 by_kind setting role Sends log act numbered h =
     send_lets setting role (send_phase log) act (own_load setting role log) (send_has setting role log h.1) h.0

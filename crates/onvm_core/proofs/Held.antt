@@ -15,19 +15,20 @@ use Rattle.onvm_core.specs.declared.layout.Word.TheVariants.{Cell, Post as PostW
 use Rattle.onvm_core.specs.declared.step.Act.TheVariants.{Push, Pop, Look}
 use Rattle.onvm_core.specs.declared.step.Item.TheVariants.{Buffer}
 use Rattle.onvm_core.specs.History.{History}
-use Rattle.onvm_core.specs.Logs.{entry_parcel, log_of}
-use Rattle.onvm_core.specs.Receiving.{IsHeld, Raises}
+use Rattle.onvm_core.specs.Logs.{Log, entry_parcel, log_of}
+use Rattle.onvm_core.specs.Receiving.{IsThrottleRecord, Raises}
 use Rattle.onvm_core.specs.Handling.SawRoom.{ByLook}
 use Rattle.onvm_core.specs.Blocks.{AllOfBlocks, IsOfBlocks}
-use Rattle.onvm_core.specs.Marks.{Marks, Pass, Ages, AreMarked, AllMarked, IsPaid, IsSettled, IsOwed, has_bit, is_throttled}
-use Rattle.onvm_core.specs.Marks.Mark.{Passed, Posted}
+use Rattle.onvm_core.specs.Marks.{MarkEvents, Pass, Ages, AreMarked, AllMarked, IsPaid, IsSettled, IsOwed, has_bit, is_throttled}
+use Rattle.onvm_core.specs.Marks.MarkEvent.{Passed, Posted}
 use Rattle.onvm_core.specs.Pace.{IsPaced}
 use Rattle.onvm_core.specs.Earned.{IsEarnedThrottle}
 use Rattle.onvm_core.specs.Earned.IsRaised.{ByPost}
 use Rattle.onvm_core.proofs.Plans.{hasty}
+use Rattle.onvm_core.proofs.Steps.{◌◂◌}
 use Rattle.onvm_core.proofs.WalkLogs.{no_bit, at_role}
 use Rattle.onvm_core.proofs.Crowd.{f, b0, e1, e2, e3, e4, setting, bit_7_0, bit_6_1, lowest_7, lowest_6}
-use Rattle.onvm_core.proofs.HeldSteps.{handled, held, h8, raised, emptied, cleared, whole}
+use Rattle.onvm_core.proofs.HeldSteps.{handled, held, second_begun, raised, emptied, cleared, whole}
 use Rattle.onvm_core.proofs.Marked.{no_bit as no_bits}
 
 -- the held frame's chain has function f, the lowest there is
@@ -37,124 +38,85 @@ f_of_chain = record { at = 0; service = 1; named = refl; place = 0; found = refl
 pub raises_f : Raises setting e3 4294967297 0
 raises_f = record { of_chain = f_of_chain; bit = λ h. let off : 1 ≡ 0 = h in absurd (omega (arith, off)) }
 
-abbrev is_held : IsHeld setting e3 0 4294967297 held
+abbrev is_held : IsThrottleRecord setting e3 0 4294967297 held
 is_held = record { function = 0; raised = raises_f; lowest = λ k less. absurd (omega (arith, less)); told_is = refl }
 
+abbrev first_popped : Log
+first_popped =
+    Pop (Lane f 0) (Buffer b0 (entry_parcel e1))
+    ∷ Look (Cell (Output f) 0) 0 None
+    ∷ Look (Weight f) 0 None
+    ∷ []
+
 core_is : IsOfBlocks setting 2 (log_of 2 whole)
-core_is = (
-  record {
-    own = record { known = omega arith; core = refl };
-    hand = record { function = f; buf = 1; parcel = entry_parcel e2 };
-    held = refl;
-    function = refl;
-    same = refl;
-    handled = record { verdict = Next; same = refl };
-  },
-  (
+core_is =
+    -- frame 2
     record {
+      own = record { known = omega arith; core = refl };
+      hand = record { function = f; buf = 1; parcel = entry_parcel e2 };
+      held = refl;
+      function = refl;
+      same = refl;
+      handled = record { verdict = Next; same = refl };
+    }
+    ◂ record {
       own = record { known = omega arith; core = refl };
       known = omega arith;
       free = refl;
-      room =
-          ByLook ((Push (Output f) (Buffer b0 (handled e1 0))) ∷ (Pop (Lane f 0) (Buffer b0 (entry_parcel e1))) ∷
-          (Look (Cell (Output f) 0) 0 None) ∷ (Look (Weight f) 0 None) ∷ []);
+      room = ByLook (Push (Output f) (Buffer b0 (handled e1 0)) ∷ first_popped);
       left = omega arith;
-    },
-    (
-      ((record { known = omega arith; core = refl }, omega arith), refl),
-      (
-        record {
-          own = record { known = omega arith; core = refl };
-          hand = record { function = f; buf = 0; parcel = entry_parcel e1 };
-          held = refl;
-          function = refl;
-          same = refl;
-          handled = record { verdict = Next; same = refl };
-        },
-        (
-          record {
-            own = record { known = omega arith; core = refl };
-            known = omega arith;
-            free = refl;
-            room = ByLook ((Look (Weight f) 0 None) ∷ []);
-            left = omega arith;
-          },
-          (
-            ((record { known = omega arith; core = refl }, omega arith), refl),
-            (
-              (record { known = omega arith; core = refl }, refl),
-              tt,
-            ),
-          ),
-        ),
-      ),
-    ),
-  ),
-)
+    }
+    ◂ ((record { known = omega arith; core = refl }, omega arith), refl)
+    -- frame 1
+    ◂ record {
+      own = record { known = omega arith; core = refl };
+      hand = record { function = f; buf = 0; parcel = entry_parcel e1 };
+      held = refl;
+      function = refl;
+      same = refl;
+      handled = record { verdict = Next; same = refl };
+    }
+    ◂ record {
+      own = record { known = omega arith; core = refl };
+      known = omega arith;
+      free = refl;
+      room = ByLook (Look (Weight f) 0 None ∷ []);
+      left = omega arith;
+    }
+    ◂ ((record { known = omega arith; core = refl }, omega arith), refl)
+    ◂ (record { known = omega arith; core = refl }, refl)
+    ◂ tt
 
 receive_is : IsOfBlocks setting 0 (log_of 0 whole)
-receive_is = (
-  inr (e4, refl, (refl, λ k raised. no_bit k raised.bit)),
-  (
-    inl (tt, refl),
-    (
-      inl (tt, (omega arith, refl, omega arith, refl)),
-      (
-        inl (tt, (omega arith, refl, omega arith, refl)),
-        (
-          inr (e3, refl, (refl, is_held)),
-          (
-            inl (tt, refl),
-            (
-              inl (tt, (omega arith, refl, omega arith, refl)),
-              (
-                inl (tt, (omega arith, refl, omega arith, refl)),
-                (
-                  inr (e2, refl, (refl, refl, record { function = f; cursor = 0; move = refl; lane = refl })),
-                  (
-                    inr (e2, refl, record { known = omega arith; word = refl; shown = bit_6_1; lowest = lowest_6 }),
-                    (
-                      inr (e2, refl, (refl, λ none. absurd (omega (arith, none)))),
-                      (
-                        inr (e2, refl, (refl, λ k raised. no_bit k raised.bit)),
-                        (
-                          inr (e2, refl, (refl, λ k raised. no_bit k raised.bit)),
-                          (
-                            inr (e1, refl, (refl, refl, record { function = f; cursor = 0; move = refl; lane = refl })),
-                            (
-                              inr (
-                                e1,
-                                refl,
-                                record { known = omega arith; word = refl; shown = bit_7_0; lowest = lowest_7 },
-                              ),
-                              (
-                                inr (e1, refl, (refl, λ none. absurd (omega (arith, none)))),
-                                (
-                                  inr (e1, refl, (refl, λ k raised. no_bit k raised.bit)),
-                                  (
-                                    inr (e1, refl, (refl, λ k raised. no_bit k raised.bit)),
-                                    tt,
-                                  ),
-                                ),
-                              ),
-                            ),
-                          ),
-                        ),
-                      ),
-                    ),
-                  ),
-                ),
-              ),
-            ),
-          ),
-        ),
-      ),
-    ),
-  ),
-)
+receive_is =
+    -- frame 4 is asked for
+    inr (e4, refl, (refl, λ k raised. no_bit k raised.bit))
+    -- a marks pass, and its post
+    ◂ inl (tt, refl)
+    ◂ inl (tt, (omega arith, refl, omega arith, refl))
+    ◂ inl (tt, (omega arith, refl, omega arith, refl))
+    -- frame 3 is held
+    ◂ inr (e3, refl, (refl, is_held))
+    -- a marks pass, and its post
+    ◂ inl (tt, refl)
+    ◂ inl (tt, (omega arith, refl, omega arith, refl))
+    ◂ inl (tt, (omega arith, refl, omega arith, refl))
+    -- frame 2 enters
+    ◂ inr (e2, refl, (refl, refl, record { function = f; cursor = 0; move = refl; lane = refl }))
+    ◂ inr (e2, refl, record { known = omega arith; word = refl; shown = bit_6_1; lowest = lowest_6 })
+    ◂ inr (e2, refl, (refl, λ none. absurd (omega (arith, none))))
+    ◂ inr (e2, refl, (refl, λ k raised. no_bit k raised.bit))
+    ◂ inr (e2, refl, (refl, λ k raised. no_bit k raised.bit))
+    -- frame 1 enters
+    ◂ inr (e1, refl, (refl, refl, record { function = f; cursor = 0; move = refl; lane = refl }))
+    ◂ inr (e1, refl, record { known = omega arith; word = refl; shown = bit_7_0; lowest = lowest_7 })
+    ◂ inr (e1, refl, (refl, λ none. absurd (omega (arith, none))))
+    ◂ inr (e1, refl, (refl, λ k raised. no_bit k raised.bit))
+    ◂ inr (e1, refl, (refl, λ k raised. no_bit k raised.bit))
+    ◂ tt
 
 lead_is : IsOfBlocks setting 4 (log_of 4 whole)
-lead_is = (tt, (tt, tt))
+lead_is = tt ◂ tt ◂ tt
 
 pub whole_follows : AllOfBlocks setting whole
 whole_follows role =
@@ -188,18 +150,20 @@ nothing_owed = inl no_bits
 
 abbrev found_both : Pass
 found_both =
-    record { want = record { function = 0; is_high = false; cell = 1 }; seen = 2 } ∷ record
-    { want = record { function = 0; is_high = true; cell = 0 }; seen = 1 } ∷ []
+    record { look = record { function = 0; is_high = false; cell = 1 }; seen = 2 }
+    ∷ record { look = record { function = 0; is_high = true; cell = 0 }; seen = 1 }
+    ∷ []
 
 abbrev found_none : Pass
 found_none =
-    record { want = record { function = 0; is_high = false; cell = 1 }; seen = 0 } ∷ record
-    { want = record { function = 0; is_high = true; cell = 0 }; seen = 0 } ∷ []
+    record { look = record { function = 0; is_high = false; cell = 1 }; seen = 0 }
+    ∷ record { look = record { function = 0; is_high = true; cell = 0 }; seen = 0 }
+    ∷ []
 
-abbrev up : Marks
+abbrev up : MarkEvents
 up = Posted 4294967297 ∷ Passed found_both ∷ []
 
-abbrev down : Marks
+abbrev down : MarkEvents
 down = Posted 8589934592 ∷ Passed found_none ∷ up
 
 apart : (k : ℕ) → (0 == suc k) ≡ false
@@ -245,61 +209,32 @@ down_is_paid : IsPaid in_time down
 down_is_paid = inl cleared_bits
 
 feeder_is : AreMarked setting 0 in_time (log_of 0 whole)
-feeder_is = (
-  (refl, down_is_paid),
-  (
-    (refl, post_down),
-    (
-      ((refl, refl), up_is_paid),
-      (
-        ((refl, refl), up_is_paid),
-        (
-          (refl, up_is_paid),
-          (
-            (refl, post_up),
-            (
-              ((refl, refl), nothing_owed),
-              (
-                ((refl, refl), nothing_owed),
-                (
-                  (refl, nothing_owed),
-                  (
-                    (refl, nothing_owed),
-                    (
-                      (refl, nothing_owed),
-                      (
-                        (refl, nothing_owed),
-                        (
-                          (refl, nothing_owed),
-                          (
-                            (refl, nothing_owed),
-                            (
-                              (refl, nothing_owed),
-                              (
-                                (refl, nothing_owed),
-                                (
-                                  (refl, nothing_owed),
-                                  (
-                                    (refl, nothing_owed),
-                                    tt,
-                                  ),
-                                ),
-                              ),
-                            ),
-                          ),
-                        ),
-                      ),
-                    ),
-                  ),
-                ),
-              ),
-            ),
-          ),
-        ),
-      ),
-    ),
-  ),
-)
+feeder_is =
+    -- frame 4 is asked for
+    down_is_paid
+    -- a pass finds neither mark, and a post clears
+    ◂ post_down
+    ◂ ((refl, refl), up_is_paid)
+    ◂ ((refl, refl), up_is_paid)
+    -- frame 3 is held
+    ◂ up_is_paid
+    -- a pass finds both marks, and a post raises
+    ◂ post_up
+    ◂ ((refl, refl), nothing_owed)
+    ◂ ((refl, refl), nothing_owed)
+    -- frame 2 enters
+    ◂ nothing_owed
+    ◂ nothing_owed
+    ◂ nothing_owed
+    ◂ nothing_owed
+    ◂ nothing_owed
+    -- frame 1 enters
+    ◂ nothing_owed
+    ◂ nothing_owed
+    ◂ nothing_owed
+    ◂ nothing_owed
+    ◂ nothing_owed
+    ◂ tt
 
 sender_is : AreMarked setting 1 in_time (log_of 1 whole)
 sender_is = tt
@@ -312,64 +247,35 @@ whole_is_marked (suc (suc k)) known = absurd (omega (arith, known))
 -- The pace: a burst is 32
 
 pub whole_is_paced : IsPaced setting 0 (log_of 0 whole)
-whole_is_paced = (
-  ((λ known. omega arith), λ g. omega arith),
-  (
-    ((λ known. omega arith), λ g. omega arith),
-    (
-      ((λ known. omega arith), λ g. omega arith),
-      (
-        ((λ known. omega arith), λ g. omega arith),
-        (
-          ((λ known. omega arith), λ g. omega arith),
-          (
-            ((λ known. omega arith), λ g. omega arith),
-            (
-              ((λ known. omega arith), λ g. omega arith),
-              (
-                ((λ known. omega arith), λ g. omega arith),
-                (
-                  ((λ known. omega arith), λ g. omega arith),
-                  (
-                    ((λ known. omega arith), λ g. omega arith),
-                    (
-                      ((λ known. omega arith), λ g. omega arith),
-                      (
-                        ((λ known. omega arith), λ g. omega arith),
-                        (
-                          ((λ known. omega arith), λ g. omega arith),
-                          (
-                            ((λ known. omega arith), λ g. omega arith),
-                            (
-                              ((λ known. omega arith), λ g. omega arith),
-                              (
-                                ((λ known. omega arith), λ g. omega arith),
-                                (
-                                  ((λ known. omega arith), λ g. omega arith),
-                                  (
-                                    ((λ known. omega arith), λ g. omega arith),
-                                    tt,
-                                  ),
-                                ),
-                              ),
-                            ),
-                          ),
-                        ),
-                      ),
-                    ),
-                  ),
-                ),
-              ),
-            ),
-          ),
-        ),
-      ),
-    ),
-  ),
-)
+whole_is_paced =
+    -- frame 4 is asked for
+    ((λ known. omega arith), λ g. omega arith)
+    -- a marks pass
+    ◂ ((λ known. omega arith), λ g. omega arith)
+    ◂ ((λ known. omega arith), λ g. omega arith)
+    ◂ ((λ known. omega arith), λ g. omega arith)
+    -- frame 3 is held
+    ◂ ((λ known. omega arith), λ g. omega arith)
+    -- a marks pass
+    ◂ ((λ known. omega arith), λ g. omega arith)
+    ◂ ((λ known. omega arith), λ g. omega arith)
+    ◂ ((λ known. omega arith), λ g. omega arith)
+    -- frame 2 enters
+    ◂ ((λ known. omega arith), λ g. omega arith)
+    ◂ ((λ known. omega arith), λ g. omega arith)
+    ◂ ((λ known. omega arith), λ g. omega arith)
+    ◂ ((λ known. omega arith), λ g. omega arith)
+    ◂ ((λ known. omega arith), λ g. omega arith)
+    -- frame 1 enters
+    ◂ ((λ known. omega arith), λ g. omega arith)
+    ◂ ((λ known. omega arith), λ g. omega arith)
+    ◂ ((λ known. omega arith), λ g. omega arith)
+    ◂ ((λ known. omega arith), λ g. omega arith)
+    ◂ ((λ known. omega arith), λ g. omega arith)
+    ◂ tt
 
 -- with a burst of one the second block may not begin before a marks pass
-pub not_in_haste : IsPaced (record setting { plan = hasty }) 0 (log_of 0 h8) → ⊥
+pub not_in_haste : IsPaced (record setting { plan = hasty }) 0 (log_of 0 second_begun) → ⊥
 not_in_haste paced = omega (arith, paced.0.0 (omega arith))
 
 -- The held frame's throttle is earned
@@ -425,14 +331,14 @@ settled_late (suc k) = no_bits (suc k) ∙ sym (late k)
 
 -- the mark may not be raised where the reading hadn't the age
 pub not_without_the_age : AreMarked setting 0 (λ pass function. false) (log_of 0 raised) → ⊥
-not_without_the_age marked = marked.0.1.unsettled settled_late
+not_without_the_age marked = marked.0.unsettled settled_late
 
 -- a feeder that found the lane empty must clear: it may begin no block
 pub not_without_clearing : (aged : Ages) (told : Option Record)
     → AreMarked setting 0 aged (Look (PostWord 0) 4294967297 told ∷ log_of 0 emptied)
     → ⊥
 not_without_clearing aged told marked =
-    elim marked.0.1 [
+    elim marked.0 [
       | inl settled ↦ let off : true ≡ false = settled 0 in cc
       | inr last ↦ omega (arith, last)
     ]

@@ -4,26 +4,26 @@ use Rattle.std.specs.Prelude.{◌==◌, nat_lt, unwrap_or}
 use Rattle.std.proofs.lemmas.Bool.{cases_Bool, eqb-true, eqb-false, eq-eqb, le-ltb, ltb-true, ltb-false}
 use Rattle.onvm_base.specs.declared.ids.FrameId.{FrameId}
 use Rattle.onvm_core.specs.declared.layout.Layout.{Layout}
-use Rattle.onvm_core.specs.declared.step.Item.TheVariants.{Buffer, Number}
+use Rattle.onvm_core.specs.declared.step.Item.TheVariants.{Buffer}
 use Rattle.onvm_core.specs.declared.step.Act.{Act}
-use Rattle.onvm_core.specs.declared.step.Act.TheVariants.{Split, Join, Take, Give, Push, Full, Pop, Empty, Look, Post}
+use Rattle.onvm_core.specs.declared.step.Act.TheVariants.{Take, Give, Push, Pop}
 use Rattle.onvm_core.specs.declared.place.Place.{Place}
 use Rattle.onvm_core.specs.declared.place.Place.TheVariants.{Pool, Ring, Role}
 use Rattle.onvm_core.specs.Layouts.{IsBuffer}
-use Rattle.onvm_core.specs.History.{History, place_of, puts}
+use Rattle.onvm_core.specs.History.{History, place_of, place_by}
 use Rattle.onvm_core.specs.Lawful.{AllowsAct, IsLawful}
 use Rattle.onvm_core.specs.Places.{same_place}
 use Rattle.onvm_core.specs.Logs.{Setting, Log, Hand, log_of}
 use Rattle.onvm_core.specs.Receiving.{ReceivePhase, receive_phase}
-use Rattle.onvm_core.specs.Receiving.ReceivePhase.{Between, Asks, Seeks, Sees, Took, Barred}
+use Rattle.onvm_core.specs.Receiving.ReceivePhase.{Took, Barred}
 use Rattle.onvm_core.specs.Handling.{core_hand}
 use Rattle.onvm_core.specs.Sending.{SendPhase, send_phase}
 use Rattle.onvm_core.specs.Sending.SendPhase.{Free, Moves as Sending, TurnsBack}
-use Rattle.onvm_core.specs.Blocks.{Kind, kind_of, IsOfBlocks, AllOfBlocks}
-use Rattle.onvm_core.specs.Blocks.Kind.{Receives, Sends, Handles, Ticks, Leads}
+use Rattle.onvm_core.specs.Blocks.{RoleKind, kind_of, IsOfBlocks, AllOfBlocks}
+use Rattle.onvm_core.specs.Blocks.RoleKind.{Receives, Sends, Handles, Ticks, Leads}
 use Rattle.onvm_core.specs.Frames.{Load, block_frame}
 use Rattle.onvm_core.specs.Frames.Load.{Fresh, Loaded}
-use Rattle.onvm_core.specs.Potential.{sum_below, weight, is_sender, core_weight, send_weight, hand_weight}
+use Rattle.onvm_core.specs.Potential.{sum_below, load_potential, is_sender, core_potential, send_potential, hand_potential}
 use Rattle.onvm_core.proofs.Once.{same_place_is, suits_holder}
 use Rattle.onvm_core.proofs.Loads.{own_load, own_load_after, own_load_is, some_pair, HasLoad}
 use Rattle.onvm_core.proofs.Hands.{is_kind}
@@ -51,7 +51,7 @@ none_said own buf none said = let off : ◌≡◌ {A = Option (ℕ × Load)} (So
 
 own_names : (role buf : ℕ) (fresh : FrameId) (act : Act) (own : Option (ℕ × Load)) (was : Place)
     → IsFreeFor own act → LetsOwn own act → (was ≡ Role role → Says own buf)
-    → unwrap_or (puts buf role act) was ≡ Role role
+    → unwrap_or (place_by buf role act) was ≡ Role role
     → Says (own_load_after fresh act own) buf
 own_names role buf fresh (Take b) own was free lets earlier e =
     elim (cases_Bool (b.0 == buf)) [
@@ -73,18 +73,11 @@ own_names role buf fresh (Push r (Buffer b parcel)) own was free lets earlier e 
       | inl hit ↦ absurd (let off : Ring r ≡ Role role = rw hit at e in cc)
       | inr miss ↦ absurd (eqb-false b.0 buf miss (one_buffer own b.0 buf lets (earlier (rw miss at e))))
     ]
-own_names role buf fresh (Push r (Number n)) own was free lets earlier e = earlier e
-own_names role buf fresh (Pop r (Number n)) own was free lets earlier e = earlier e
-own_names role buf fresh (Split a) own was free lets earlier e = earlier e
-own_names role buf fresh (Join a) own was free lets earlier e = earlier e
-own_names role buf fresh (Full a) own was free lets earlier e = earlier e
-own_names role buf fresh (Empty a) own was free lets earlier e = earlier e
-own_names role buf fresh (Look a b c) own was free lets earlier e = earlier e
-own_names role buf fresh (Post a b) own was free lets earlier e = earlier e
+own_names role buf fresh act own was free lets earlier e = earlier e
 
 -- another role's act puts nothing in this role's hands
 foreign_keeps : (role other buf : ℕ) (act : Act) (was : Place)
-    → (role == other) ≡ false → unwrap_or (puts buf role act) was ≡ Role other
+    → (role == other) ≡ false → unwrap_or (place_by buf role act) was ≡ Role other
     → was ≡ Role other
 foreign_keeps role other buf (Take b) was apart e =
     elim (cases_Bool (b.0 == buf)) [
@@ -110,14 +103,7 @@ foreign_keeps role other buf (Push r (Buffer b parcel)) was apart e =
       | inl hit ↦ absurd (let off : Ring r ≡ Role other = rw hit at e in cc)
       | inr miss ↦ rw miss at e
     ]
-foreign_keeps role other buf (Push r (Number n)) was apart e = e
-foreign_keeps role other buf (Pop r (Number n)) was apart e = e
-foreign_keeps role other buf (Split a) was apart e = e
-foreign_keeps role other buf (Join a) was apart e = e
-foreign_keeps role other buf (Full a) was apart e = e
-foreign_keeps role other buf (Empty a) was apart e = e
-foreign_keeps role other buf (Look a b c) was apart e = e
-foreign_keeps role other buf (Post a b) was apart e = e
+foreign_keeps role other buf act was apart e = e
 
 lets_own : (layout : Layout) (before : History) (role : ℕ) (act : Act) (own : Option (ℕ × Load))
     → AllowsAct layout before role act → ((buf : ℕ) → place_of buf before ≡ Role role → Says own buf)
@@ -125,15 +111,7 @@ lets_own : (layout : Layout) (before : History) (role : ℕ) (act : Act) (own : 
 lets_own layout before role (Give b outcome parcel) own allowed earlier = earlier b.0 allowed.holds.holder
 lets_own layout before role (Push r (Buffer b parcel)) own allowed earlier =
     earlier b.0 (suits_holder layout before role r b parcel allowed.suits)
-lets_own layout before role (Push r (Number n)) own allowed earlier = tt
-lets_own layout before role (Take b) own allowed earlier = tt
-lets_own layout before role (Pop r i) own allowed earlier = tt
-lets_own layout before role (Split a) own allowed earlier = tt
-lets_own layout before role (Join a) own allowed earlier = tt
-lets_own layout before role (Full a) own allowed earlier = tt
-lets_own layout before role (Empty a) own allowed earlier = tt
-lets_own layout before role (Look a b c) own allowed earlier = tt
-lets_own layout before role (Post a b) own allowed earlier = tt
+lets_own layout before role act own allowed earlier = tt
 
 -- a buffer whose place is a role is what the role's own log says
 pub holder_says : (setting : Setting) (past : History)
@@ -154,7 +132,7 @@ holder_says setting (step ∷ before) lawful blocks role buf e =
           (subst (λ r. AllowsAct setting.layout before r step.act) same lawful.0.allowed) earlier in
           rw mine (own_names role buf (block_frame setting role (log_of role before)) step.act
           (own_load setting role (log_of role before)) (place_of buf before) free lets (earlier buf)
-          (subst (λ r. unwrap_or (puts buf r step.act) (place_of buf before) ≡ Role role) same e))
+          (subst (λ r. unwrap_or (place_by buf r step.act) (place_of buf before) ≡ Role role) same e))
       | inr foreign ↦
           rw foreign (earlier buf (foreign_keeps step.role role buf step.act (place_of buf before) foreign e))
     ]
@@ -163,7 +141,7 @@ holder_says setting (step ∷ before) lawful blocks role buf e =
 
 abbrev pub own_weight : Layout → ℕ → Option (ℕ × Load) → ℕ
 own_weight layout role None = 0
-own_weight layout role (Some own) = weight layout (Role role) (Some own.1)
+own_weight layout role (Some own) = load_potential layout (Role role) (Some own.1)
 
 one_term : (test : ℕ → Bool) (g : ℕ → ℕ) (n x : ℕ) → x < n → ((k : ℕ) → test k ≡ (x == k))
     → sum_below (λ k. pick (test k) (g k)) n ≡ g x
@@ -205,7 +183,7 @@ role_weighs_by setting past role (Some (buf, what)) lawful blocks said =
     let had : HasLoad setting past role buf what = own_load_is setting past lawful role buf what said in
     let known : IsBuffer setting.layout buf =
     subst (Known setting.layout buf) had.holder (place_known setting.layout past lawful buf) in
-    let weighs : heft setting past buf ≡ weight setting.layout (Role role) (Some what) =
+    let weighs : heft setting past buf ≡ load_potential setting.layout (Role role) (Some what) =
     rw (had.holder, had.has) refl in
     one_term (λ k. same_place (place_of k past) (Role role)) (heft setting past)
     (setting.layout.ports * setting.layout.buffers) buf known
@@ -218,46 +196,36 @@ role_weighs_by setting past role (Some (buf, what)) lawful blocks said =
 abbrev pub taken_weight : ReceivePhase → ℕ
 taken_weight (Took done buf) = 66
 taken_weight (Barred done buf ring) = 66
-taken_weight (Between done) = 0
-taken_weight (Asks done k) = 0
-taken_weight (Seeks done k) = 0
-taken_weight (Sees done index seen) = 0
+taken_weight phase = 0
 
-abbrev pub taken_by : Setting → Kind → Log → ℕ
+abbrev pub taken_by : Setting → RoleKind → Log → ℕ
 taken_by setting Receives log = taken_weight (receive_phase setting log)
-taken_by setting Sends log = 0
-taken_by setting Handles log = 0
-taken_by setting Ticks log = 0
-taken_by setting Leads log = 0
+taken_by setting kind log = 0
 
 receive_weighs : (layout : Layout) (port : ℕ) (phase : ReceivePhase)
     → own_weight layout port (taken_in port phase) ≡ taken_weight phase + 0
 receive_weighs layout port (Took done buf) = refl
-receive_weighs layout port (Barred done buf ring) = refl
-receive_weighs layout port (Between done) = refl
-receive_weighs layout port (Asks done k) = refl
-receive_weighs layout port (Seeks done k) = refl
-receive_weighs layout port (Sees done index seen) = refl
+receive_weighs layout port phase = refl
 
 send_weighs : (layout : Layout) (role : ℕ) (phase : SendPhase) → is_sender layout role ≡ true
-    → own_weight layout role (moved_in phase) ≡ 0 + send_weight phase
+    → own_weight layout role (moved_in phase) ≡ 0 + send_potential phase
 send_weighs layout role Free sender = refl
 send_weighs layout role (Sending hand) sender = rw sender (omega arith)
 send_weighs layout role (TurnsBack hand ring) sender = rw sender (omega arith)
 
 core_weighs : (layout : Layout) (role : ℕ) (hand : Option Hand) → is_sender layout role ≡ false
-    → own_weight layout role (handled_in hand) ≡ 0 + core_weight hand
+    → own_weight layout role (handled_in hand) ≡ 0 + core_potential hand
 core_weighs layout role None other = refl
 core_weighs layout role (Some hand) other = rw other (omega arith)
 
-kind_weighs : (setting : Setting) (role : ℕ) (kind : Kind) (log : Log)
+kind_weighs : (setting : Setting) (role : ℕ) (kind : RoleKind) (log : Log)
     → (kind ≡ Sends → is_sender setting.layout role ≡ true) → (kind ≡ Handles → is_sender setting.layout role ≡ false)
-    → own_weight setting.layout role (held_in setting role kind log) ≡ taken_by setting kind log + hand_weight kind log
+    → own_weight setting.layout role (held_in setting role kind log)
+    ≡ taken_by setting kind log + hand_potential kind log
 kind_weighs setting role Receives log sends handles = receive_weighs setting.layout role (receive_phase setting log)
 kind_weighs setting role Sends log sends handles = send_weighs setting.layout role (send_phase log) (sends refl)
 kind_weighs setting role Handles log sends handles = core_weighs setting.layout role (core_hand log) (handles refl)
-kind_weighs setting role Ticks log sends handles = refl
-kind_weighs setting role Leads log sends handles = refl
+kind_weighs setting role kind log sends handles = refl
 
 is_sending : (layout : Layout) (role : ℕ) → kind_of layout role ≡ Sends → is_sender layout role ≡ true
 is_sending layout role e =
@@ -290,7 +258,7 @@ pub role_weighs : (setting : Setting) (past : History)
     → IsLawful setting.layout past → AllOfBlocks setting past → (role : ℕ)
     → weight_there setting past (Role role)
     ≡ taken_by setting (kind_of setting.layout role) (log_of role past)
-    + hand_weight (kind_of setting.layout role) (log_of role past)
+    + hand_potential (kind_of setting.layout role) (log_of role past)
 role_weighs setting past lawful blocks role =
     role_weighs_by setting past role
     (held_in setting role (kind_of setting.layout role) (log_of role past)) lawful blocks

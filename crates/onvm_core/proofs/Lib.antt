@@ -6,12 +6,15 @@ pub mod Counted
 pub mod Crowd
 pub mod Dropping
 pub mod Earning
+pub mod Endings
 pub mod Falls
 pub mod Gathered
 pub mod Hands
 pub mod Held
 pub mod HeldSteps
 pub mod Holders
+pub mod InBlock
+pub mod Lighter
 pub mod Lists
 pub mod Loads
 pub mod Logged
@@ -22,8 +25,10 @@ pub mod Plans
 pub mod Refused
 pub mod Sampled
 pub mod Scanned
+pub mod Steps
 pub mod Sums
 pub mod Throttling
 pub mod Traces
+pub mod Trails
 pub mod Walk
 pub mod WalkLogs

@@ -10,14 +10,14 @@ use Rattle.onvm_core.specs.declared.parcel.Parcel.{Parcel}
 use Rattle.onvm_core.specs.declared.step.Item.{Item}
 use Rattle.onvm_core.specs.declared.step.Item.TheVariants.{Buffer, Number}
 use Rattle.onvm_core.specs.declared.step.Act.{Act}
-use Rattle.onvm_core.specs.declared.step.Act.TheVariants.{Split, Join, Take, Give, Push, Full, Pop, Empty, Look, Post}
+use Rattle.onvm_core.specs.declared.step.Act.TheVariants.{Take, Give, Push, Pop}
 use Rattle.onvm_core.specs.declared.step.Step.{Step}
 use Rattle.onvm_core.specs.declared.place.Place.{Place}
 use Rattle.onvm_core.specs.declared.place.Place.TheVariants.{Pool, Ring, Role}
 use Rattle.onvm_core.specs.Layouts.{same_ring}
-use Rattle.onvm_core.specs.History.{History, pushes, pops, popped_from, content_of, place_of, puts}
+use Rattle.onvm_core.specs.History.{History, pushes, pops, popped_from, content_of, place_of, place_by}
 use Rattle.onvm_core.specs.Lawful.{AllowsAct, IsLawful}
-use Rattle.onvm_core.specs.Places.{is_buffer, how_many, one_if, same_place}
+use Rattle.onvm_core.specs.Places.{is_of_buffer, how_many, one_if, same_place}
 use Rattle.onvm_core.specs.Logs.{Setting, Log, log_of}
 use Rattle.onvm_core.specs.Frames.{Load, load, load_after, block_frame}
 use Rattle.onvm_core.specs.Frames.Load.{Fresh, Loaded}
@@ -25,7 +25,7 @@ use Rattle.onvm_core.proofs.Contents.{content_moves}
 use Rattle.onvm_core.proofs.Once.{source, Moves, named_from, in_ring_once, same_place_is, some_once}
 
 -- an act that names no buffer b leaves what is in b
-pub load_untouched : (buf role : ℕ) (fresh : FrameId) (act : Act) (was : Option Load) → puts buf role act ≡ None
+pub load_untouched : (buf role : ℕ) (fresh : FrameId) (act : Act) (was : Option Load) → place_by buf role act ≡ None
     → load_after buf fresh act was ≡ was
 load_untouched buf role fresh (Take b) was e =
     elim (cases_Bool (b.0 == buf)) [
@@ -42,32 +42,18 @@ load_untouched buf role fresh (Push r (Buffer b parcel)) was e =
       | inl hit ↦ let off : Some (Ring r) ≡ None = rw hit at e in absurd (cc)
       | inr miss ↦ rw miss refl
     ]
-load_untouched buf role fresh (Push r (Number n)) was e = refl
 load_untouched buf role fresh (Pop r (Buffer b parcel)) was e =
     elim (cases_Bool (b.0 == buf)) [
       | inl hit ↦ let off : Some (Role role) ≡ None = rw hit at e in absurd (cc)
       | inr miss ↦ rw miss refl
     ]
-load_untouched buf role fresh (Pop r (Number n)) was e = refl
-load_untouched buf role fresh (Split a) was e = refl
-load_untouched buf role fresh (Join a) was e = refl
-load_untouched buf role fresh (Full a) was e = refl
-load_untouched buf role fresh (Empty a) was e = refl
-load_untouched buf role fresh (Look a b c) was e = refl
-load_untouched buf role fresh (Post a b) was e = refl
+load_untouched buf role fresh act was e = refl
 
 -- only its holder names a buffer that a role holds
 source_role : (role other : ℕ) (act : Act) → source role act ≡ Role other → role ≡ other
 source_role role other (Take b) e = absurd (cc)
 source_role role other (Pop r i) e = absurd (cc)
-source_role role other (Give a b c) e = cc
-source_role role other (Push a b) e = cc
-source_role role other (Split a) e = cc
-source_role role other (Join a) e = cc
-source_role role other (Full a) e = cc
-source_role role other (Empty a) e = cc
-source_role role other (Look a b c) e = cc
-source_role role other (Post a b) e = cc
+source_role role other act e = cc
 
 some_or_none : (o : Option Place) → ((there : Place) × (o ≡ Some there)) ⊎ (o ≡ None)
 some_or_none None = inr refl
@@ -76,13 +62,13 @@ some_or_none (Some there) = inl (there, refl)
 -- another role's step doesn't name a buffer that this role holds
 pub foreign_untouched : (layout : Layout) (step : Step) (before : History) (buf role : ℕ)
     → IsLawful layout (step ∷ before) → place_of buf before ≡ Role role → (step.role == role) ≡ false
-    → puts buf step.role step.act ≡ None
-foreign_untouched layout step before buf role lawful held_by foreign =
-    elim (some_or_none (puts buf step.role step.act)) [
+    → place_by buf step.role step.act ≡ None
+foreign_untouched layout step before buf role lawful held_buffers foreign =
+    elim (some_or_none (place_by buf step.role step.act)) [
       | inl named ↦
           let stood : place_of buf before ≡ source step.role step.act =
           named_from layout step before lawful buf named.0 named.1 in
-          let same : step.role ≡ role = source_role step.role role step.act (sym stood ∙ held_by) in
+          let same : step.role ≡ role = source_role step.role role step.act (sym stood ∙ held_buffers) in
           absurd (eqb-false step.role role foreign same)
       | inr none ↦ none
     ]
@@ -119,7 +105,7 @@ some_pair a b x y e =
 own_step : (role buf : ℕ) (fresh : FrameId) (act : Act) (own : Option (ℕ × Load)) (what : Load) (was : Place)
     (had : Option Load)
     → own_load_after fresh act own ≡ Some (buf, what) → (own ≡ Some (buf, what) → (was ≡ Role role) × (had ≡ Some what))
-    → (unwrap_or (puts buf role act) was ≡ Role role) × (load_after buf fresh act had ≡ Some what)
+    → (unwrap_or (place_by buf role act) was ≡ Role role) × (load_after buf fresh act had ≡ Some what)
 own_step role buf fresh (Take b) own what was had e earlier =
     let parts : (b.0 ≡ buf) × (Fresh fresh ≡ what) = some_pair b.0 buf (Fresh fresh) what e in
     let one : b.0 ≡ buf = parts.0 in
@@ -128,18 +114,11 @@ own_step role buf fresh (Give b outcome parcel) own what was had e earlier =
     absurd (let off : None ≡ Some (buf, what) = e in cc)
 own_step role buf fresh (Push r (Buffer b parcel)) own what was had e earlier =
     absurd (let off : None ≡ Some (buf, what) = e in cc)
-own_step role buf fresh (Push r (Number n)) own what was had e earlier = earlier e
 own_step role buf fresh (Pop r (Buffer b parcel)) own what was had e earlier =
     let parts : (b.0 ≡ buf) × (Loaded parcel ≡ what) = some_pair b.0 buf (Loaded parcel) what e in
     let one : b.0 ≡ buf = parts.0 in
     let two : Loaded parcel ≡ what = parts.1 in rw (eq-eqb b.0 buf one) (refl, ap Some two)
-own_step role buf fresh (Pop r (Number n)) own what was had e earlier = earlier e
-own_step role buf fresh (Split a) own what was had e earlier = earlier e
-own_step role buf fresh (Join a) own what was had e earlier = earlier e
-own_step role buf fresh (Full a) own what was had e earlier = earlier e
-own_step role buf fresh (Empty a) own what was had e earlier = earlier e
-own_step role buf fresh (Look a b c) own what was had e earlier = earlier e
-own_step role buf fresh (Post a b) own what was had e earlier = earlier e
+own_step role buf fresh act own what was had e earlier = earlier e
 
 -- what a role's own log says of its buffer is so
 pub own_load_is : (setting : Setting) (past : History)
@@ -154,7 +133,7 @@ own_load_is setting (step ∷ before) lawful role buf what e =
           (own_load setting role (log_of role before))
           ≡ Some (buf, what)
           = rw mine at e in
-          let both : (unwrap_or (puts buf role step.act) (place_of buf before) ≡ Role role)
+          let both : (unwrap_or (place_by buf role step.act) (place_of buf before) ≡ Role role)
           × (load_after buf (block_frame setting role (log_of role before)) step.act (load setting buf before)
           ≡ Some what)
           = own_step role buf (block_frame setting role (log_of role before)) step.act
@@ -165,7 +144,7 @@ own_load_is setting (step ∷ before) lawful role buf what e =
           record { holder = rw same both.0; has = rw same both.1 }
       | inr foreign ↦ let own_e : own_load setting role (log_of role before) ≡ Some (buf, what) = rw foreign at e in
           let had : HasLoad setting before role buf what = own_load_is setting before lawful.1 role buf what own_e in
-          let none : puts buf step.role step.act ≡ None =
+          let none : place_by buf step.role step.act ≡ None =
           foreign_untouched setting.layout step before buf role lawful had.holder foreign in
           record {
             holder = rw none had.holder;
@@ -178,7 +157,7 @@ own_load_is setting (step ∷ before) lawful role buf what e =
 
 -- nothing is in a buffer of the pool
 pool_step_load : (buf role : ℕ) (fresh : FrameId) (act : Act) (was : Place) (had : Option Load)
-    → unwrap_or (puts buf role act) was ≡ Pool → (was ≡ Pool → had ≡ None)
+    → unwrap_or (place_by buf role act) was ≡ Pool → (was ≡ Pool → had ≡ None)
     → load_after buf fresh act had ≡ None
 pool_step_load buf role fresh (Take b) was had e earlier =
     elim (cases_Bool (b.0 == buf)) [
@@ -192,19 +171,12 @@ pool_step_load buf role fresh (Push r (Buffer b parcel)) was had e earlier =
       | inl hit ↦ absurd (let off : Ring r ≡ Pool = rw hit at e in cc)
       | inr miss ↦ rw miss (earlier (rw miss at e))
     ]
-pool_step_load buf role fresh (Push r (Number n)) was had e earlier = earlier e
 pool_step_load buf role fresh (Pop r (Buffer b parcel)) was had e earlier =
     elim (cases_Bool (b.0 == buf)) [
       | inl hit ↦ absurd (let off : Role role ≡ Pool = rw hit at e in cc)
       | inr miss ↦ rw miss (earlier (rw miss at e))
     ]
-pool_step_load buf role fresh (Pop r (Number n)) was had e earlier = earlier e
-pool_step_load buf role fresh (Split a) was had e earlier = earlier e
-pool_step_load buf role fresh (Join a) was had e earlier = earlier e
-pool_step_load buf role fresh (Full a) was had e earlier = earlier e
-pool_step_load buf role fresh (Empty a) was had e earlier = earlier e
-pool_step_load buf role fresh (Look a b c) was had e earlier = earlier e
-pool_step_load buf role fresh (Post a b) was had e earlier = earlier e
+pool_step_load buf role fresh act was had e earlier = earlier e
 
 pub pool_load : (setting : Setting) (past : History) (buf : ℕ) → place_of buf past ≡ Pool → load setting buf past ≡ None
 pool_load setting [] buf e = refl
@@ -244,7 +216,7 @@ IsAt ring past (Buffer b parcel) = place_of b.0 past ≡ Ring ring
 IsAt ring past (Number n) = Unit {0}
 
 counted_at : (ring : RingId) (past : History) (items : List Item)
-    → ((buf : ℕ) → 1 ≤ how_many (is_buffer buf) items → place_of buf past ≡ Ring ring)
+    → ((buf : ℕ) → 1 ≤ how_many (is_of_buffer buf) items → place_of buf past ≡ Ring ring)
     → Each (IsAt ring past) items
 counted_at ring past [] all = tt
 counted_at ring past (Buffer b parcel ∷ items) all = (
@@ -257,7 +229,8 @@ pub content_at : (layout : Layout) (past : History) → IsLawful layout past →
     → Each (IsAt ring past) (content_of ring past)
 content_at layout past lawful ring =
     counted_at ring past (content_of ring past) (λ buf h.
-    let once : how_many (is_buffer buf) (content_of ring past) ≡ one_if (same_place (place_of buf past) (Ring ring)) =
+    let once : how_many (is_of_buffer buf) (content_of ring past)
+    ≡ one_if (same_place (place_of buf past) (Ring ring)) =
     in_ring_once layout past lawful buf ring in
     same_place_is (place_of buf past) (Ring ring)
     (some_once (same_place (place_of buf past) (Ring ring)) (omega arith)))
@@ -288,19 +261,12 @@ ring_load_step role buf ring fresh (Push r (Buffer b p)) parcel was had moves st
       | inl hit ↦ let from : was ≡ Role role = moves (Ring r) (rw hit refl) in absurd (cc)
       | inr miss ↦ rw miss has
     ]
-ring_load_step role buf ring fresh (Push r (Number n)) parcel was had moves stood has popped_from = has
 ring_load_step role buf ring fresh (Pop r (Buffer b p)) parcel was had moves stood has popped_from =
     elim (cases_Bool (b.0 == buf)) [
       | inl hit ↦ rw hit (sym (popped_from r b p refl hit) ∙ has)
       | inr miss ↦ rw miss has
     ]
-ring_load_step role buf ring fresh (Pop r (Number n)) parcel was had moves stood has popped_from = has
-ring_load_step role buf ring fresh (Split a) parcel was had moves stood has popped_from = has
-ring_load_step role buf ring fresh (Join a) parcel was had moves stood has popped_from = has
-ring_load_step role buf ring fresh (Full a) parcel was had moves stood has popped_from = has
-ring_load_step role buf ring fresh (Empty a) parcel was had moves stood has popped_from = has
-ring_load_step role buf ring fresh (Look a b c) parcel was had moves stood has popped_from = has
-ring_load_step role buf ring fresh (Post a b) parcel was had moves stood has popped_from = has
+ring_load_step role buf ring fresh act parcel was had moves stood has popped_from = has
 
 -- what a step pushes has the parcel that it was pushed with
 pushed_loaded : (setting : Setting) (ring : RingId) (step : Step) (before : History) (act : Act) → step.act ≡ act
@@ -310,15 +276,7 @@ pushed_loaded setting ring step before (Push r (Buffer b parcel)) e =
     elim (cases_Bool (same_ring r ring)) [ inl met ↦ rw met (fact, tt) | inr unmet ↦ rw unmet tt ]
 pushed_loaded setting ring step before (Push r (Number n)) e =
     elim (cases_Bool (same_ring r ring)) [ inl met ↦ rw met (tt, tt) | inr unmet ↦ rw unmet tt ]
-pushed_loaded setting ring step before (Take a) e = tt
-pushed_loaded setting ring step before (Give a b c) e = tt
-pushed_loaded setting ring step before (Pop a b) e = tt
-pushed_loaded setting ring step before (Split a) e = tt
-pushed_loaded setting ring step before (Join a) e = tt
-pushed_loaded setting ring step before (Full a) e = tt
-pushed_loaded setting ring step before (Empty a) e = tt
-pushed_loaded setting ring step before (Look a b c) e = tt
-pushed_loaded setting ring step before (Post a b) e = tt
+pushed_loaded setting ring step before act e = tt
 
 -- what is popped has the parcel with which it is popped
 pub popped_load : (setting : Setting) (step : Step) (before : History)

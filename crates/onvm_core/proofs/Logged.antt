@@ -11,16 +11,16 @@ use Rattle.onvm_core.specs.declared.parcel.Parcel.{Parcel}
 use Rattle.onvm_core.specs.declared.step.Item.{Item}
 use Rattle.onvm_core.specs.declared.step.Item.TheVariants.{Buffer, Number}
 use Rattle.onvm_core.specs.declared.step.Act.{Act}
-use Rattle.onvm_core.specs.declared.step.Act.TheVariants.{Split, Join, Take, Give, Push, Full, Pop, Empty, Look, Post}
+use Rattle.onvm_core.specs.declared.step.Act.TheVariants.{Take, Give, Push, Pop}
 use Rattle.onvm_core.specs.declared.place.Place.{Place}
 use Rattle.onvm_core.specs.declared.place.Place.TheVariants.{Pool, Ring, Role}
 use Rattle.onvm_core.specs.Layouts.{same_ring, producer, consumer, IsBuffer, IsRing}
-use Rattle.onvm_core.specs.History.{History, pushes, pops, pushed_on, popped_from, content_of, place_of, puts}
+use Rattle.onvm_core.specs.History.{History, pushes, pops, pushed_on, popped_from, content_of, place_of, place_by}
 use Rattle.onvm_core.specs.Lawful.{AllowsAct, IsLawful, Suits}
-use Rattle.onvm_core.specs.Places.{is_buffer, how_many, one_if, same_place}
+use Rattle.onvm_core.specs.Places.{is_of_buffer, how_many, one_if, same_place}
 use Rattle.onvm_core.specs.Logs.{Setting, log_of}
 use Rattle.onvm_core.specs.Frames.{load}
-use Rattle.onvm_core.specs.Potential.{sum_below, hops_left, weight, weight_at, pushed_in, popped_in, content_in, weight_of, ring_weight}
+use Rattle.onvm_core.specs.Potential.{sum_below, hops_left, load_potential, place_potential, pushed_in, popped_in, content_in, items_potential, ring_potential}
 use Rattle.onvm_core.proofs.Contents.{same_ring_is}
 use Rattle.onvm_core.proofs.Once.{in_ring_once}
 use Rattle.onvm_core.proofs.Loads.{Each, Each_map, Each_both, IsAt, IsLoaded, content_at, content_loaded, first_of}
@@ -38,15 +38,7 @@ no_push layout before role finish (Push r item) ring allowed at apart =
           absurd (eqb-false role finish apart (allowed.own_end ∙ ap (producer layout) same ∙ at))
       | inr unmet ↦ rw unmet refl
     ]
-no_push layout before role finish (Split a) ring allowed at apart = refl
-no_push layout before role finish (Join a) ring allowed at apart = refl
-no_push layout before role finish (Take a) ring allowed at apart = refl
-no_push layout before role finish (Give a b c) ring allowed at apart = refl
-no_push layout before role finish (Pop a b) ring allowed at apart = refl
-no_push layout before role finish (Full a) ring allowed at apart = refl
-no_push layout before role finish (Empty a) ring allowed at apart = refl
-no_push layout before role finish (Look a b c) ring allowed at apart = refl
-no_push layout before role finish (Post a b) ring allowed at apart = refl
+no_push layout before role finish act ring allowed at apart = refl
 
 -- only its consumer pops from a ring
 no_pop_from : (layout : Layout) (before : History) (role finish : ℕ) (act : Act) (ring : RingId)
@@ -58,15 +50,7 @@ no_pop_from layout before role finish (Pop r item) ring allowed at apart =
           absurd (eqb-false role finish apart (allowed.own_end ∙ ap (consumer layout) same ∙ at))
       | inr unmet ↦ rw unmet refl
     ]
-no_pop_from layout before role finish (Split a) ring allowed at apart = refl
-no_pop_from layout before role finish (Join a) ring allowed at apart = refl
-no_pop_from layout before role finish (Take a) ring allowed at apart = refl
-no_pop_from layout before role finish (Give a b c) ring allowed at apart = refl
-no_pop_from layout before role finish (Push a b) ring allowed at apart = refl
-no_pop_from layout before role finish (Full a) ring allowed at apart = refl
-no_pop_from layout before role finish (Empty a) ring allowed at apart = refl
-no_pop_from layout before role finish (Look a b c) ring allowed at apart = refl
-no_pop_from layout before role finish (Post a b) ring allowed at apart = refl
+no_pop_from layout before role finish act ring allowed at apart = refl
 
 pushed_logged : (layout : Layout) (past : History) (ring : RingId) (finish : ℕ)
     → IsLawful layout past → producer layout ring ≡ finish
@@ -130,7 +114,7 @@ known_step : (layout : Layout) (before : History) (buf role : ℕ) (act : Act) (
     → AllowsAct layout before role act
     → ((r : RingId) (b : BufId) (parcel : Parcel) → act ≡ Pop r (Buffer b parcel) → IsBuffer layout b.0)
     → Known layout buf was
-    → Known layout buf (unwrap_or (puts buf role act) was)
+    → Known layout buf (unwrap_or (place_by buf role act) was)
 known_step layout before buf role (Take b) was allowed popped earlier =
     elim (cases_Bool (b.0 == buf)) [
       | inl hit ↦ rw hit (subst (IsBuffer layout) (eqb-true b.0 buf hit) allowed.known)
@@ -150,14 +134,7 @@ known_step layout before buf role (Pop r (Buffer b parcel)) was allowed popped e
       | inl hit ↦ rw hit (subst (IsBuffer layout) (eqb-true b.0 buf hit) (popped r b parcel refl))
       | inr miss ↦ rw miss earlier
     ]
-known_step layout before buf role (Push r (Number n)) was allowed popped earlier = earlier
-known_step layout before buf role (Pop r (Number n)) was allowed popped earlier = earlier
-known_step layout before buf role (Split a) was allowed popped earlier = earlier
-known_step layout before buf role (Join a) was allowed popped earlier = earlier
-known_step layout before buf role (Full a) was allowed popped earlier = earlier
-known_step layout before buf role (Empty a) was allowed popped earlier = earlier
-known_step layout before buf role (Look a b c) was allowed popped earlier = earlier
-known_step layout before buf role (Post a b) was allowed popped earlier = earlier
+known_step layout before buf role act was allowed popped earlier = earlier
 
 popped_known : (layout : Layout) (before : History) (role : ℕ) (act : Act)
     → IsLawful layout before → AllowsAct layout before role act → ((buf : ℕ) → Known layout buf (place_of buf before))
@@ -182,40 +159,41 @@ place_known layout (step ∷ before) lawful buf =
 -- a buffer's number for each time that it is among the items
 abbrev items_at : (ℕ → ℕ) → List Item → ℕ → ℕ
 items_at g [] buf = 0
-items_at g (item ∷ items) buf = pick (is_buffer buf item) (g buf) + items_at g items buf
+items_at g (item ∷ items) buf = pick (is_of_buffer buf item) (g buf) + items_at g items buf
 
-items_none : (g : ℕ → ℕ) (items : List Item) (buf : ℕ) → how_many (is_buffer buf) items ≡ 0 → items_at g items buf ≡ 0
+items_none : (g : ℕ → ℕ) (items : List Item) (buf : ℕ) → how_many (is_of_buffer buf) items ≡ 0
+    → items_at g items buf ≡ 0
 items_none g [] buf none = refl
 items_none g (item ∷ items) buf none =
-    elim (cases_Bool (is_buffer buf item)) [
-      | inl met ↦ let off : 1 + how_many (is_buffer buf) items ≡ 0 = rw met at none in absurd (omega (arith, off))
+    elim (cases_Bool (is_of_buffer buf item)) [
+      | inl met ↦ let off : 1 + how_many (is_of_buffer buf) items ≡ 0 = rw met at none in absurd (omega (arith, off))
       | inr unmet ↦
-          let later : 0 + how_many (is_buffer buf) items ≡ 0 = rw unmet at none in
+          let later : 0 + how_many (is_of_buffer buf) items ≡ 0 = rw unmet at none in
           rw unmet (omega (arith, items_none g items buf (omega (arith, later))))
     ]
 
-items_once : (g : ℕ → ℕ) (items : List Item) (buf : ℕ) (b : Bool) → how_many (is_buffer buf) items ≡ one_if b
+items_once : (g : ℕ → ℕ) (items : List Item) (buf : ℕ) (b : Bool) → how_many (is_of_buffer buf) items ≡ one_if b
     → items_at g items buf ≡ pick b (g buf)
 items_once g items buf false once = items_none g items buf once
 items_once g [] buf true once = absurd (omega (arith, once))
 items_once g (item ∷ items) buf true once =
-    elim (cases_Bool (is_buffer buf item)) [
+    elim (cases_Bool (is_of_buffer buf item)) [
       | inl met ↦
-          let one : 1 + how_many (is_buffer buf) items ≡ 1 = rw met at once in
+          let one : 1 + how_many (is_of_buffer buf) items ≡ 1 = rw met at once in
           rw met (omega (arith, items_none g items buf (omega (arith, one))))
       | inr unmet ↦
-          let later : 0 + how_many (is_buffer buf) items ≡ 1 = rw unmet at once in
+          let later : 0 + how_many (is_of_buffer buf) items ≡ 1 = rw unmet at once in
           rw unmet (omega (arith, items_once g items buf true (omega (arith, later))))
     ]
 
 -- what the sum over buffers has for an item
 abbrev Weighs : (ℕ → ℕ) → Layout → RingId → ℕ → Item → Type 0
-Weighs g layout ring n (Buffer b parcel) = (b.0 < n) × (g b.0 ≡ weight_at layout (Ring ring) (hops_left parcel))
+Weighs g layout ring n (Buffer b parcel) = (b.0 < n) × (g b.0 ≡ place_potential layout (Ring ring) (hops_left parcel))
 Weighs g layout ring n (Number m) = Unit {0}
 
 items_weigh : (g : ℕ → ℕ) (layout : Layout) (ring : RingId) (n : ℕ) (items : List Item)
     → Each (Weighs g layout ring n) items
-    → sum_below (items_at g items) n ≡ weight_of layout ring items
+    → sum_below (items_at g items) n ≡ items_potential layout ring items
 items_weigh g layout ring n [] each = sum_none (items_at g []) n (λ k less. refl)
 items_weigh g layout ring n (Buffer b parcel ∷ items) each =
     let apart : sum_below (items_at g (Buffer b parcel ∷ items)) n
@@ -237,7 +215,7 @@ items_weigh g layout ring n (Number m ∷ items) each =
 
 -- what a buffer weighs where it is
 abbrev pub heft : Setting → History → ℕ → ℕ
-heft setting past buf = weight setting.layout (place_of buf past) (load setting buf past)
+heft setting past buf = load_potential setting.layout (place_of buf past) (load setting buf past)
 
 -- what the buffers at a place weigh together
 abbrev pub weight_there : Setting → History → Place → ℕ
@@ -257,7 +235,7 @@ item_weighs setting past ring lawful (Number m) h = tt
 
 -- the buffers whose place is a ring weigh as its content by the logs
 pub ring_weighs : (setting : Setting) (past : History) → IsLawful setting.layout past → (ring : RingId)
-    → weight_there setting past (Ring ring) ≡ ring_weight setting (λ role. log_of role past) ring
+    → weight_there setting past (Ring ring) ≡ ring_potential setting (λ role. log_of role past) ring
 ring_weighs setting past lawful ring =
     let each : Each (Weighs (heft setting past) setting.layout ring (setting.layout.ports * setting.layout.buffers))
     (content_of ring past)
@@ -274,4 +252,4 @@ ring_weighs setting past lawful ring =
     (in_ring_once setting.layout past lawful buf ring)))
     ∙ items_weigh (heft setting past) setting.layout ring (setting.layout.ports * setting.layout.buffers)
     (content_of ring past) each
-    ∙ ap (weight_of setting.layout ring) (content_logged setting.layout past lawful ring)
+    ∙ ap (items_potential setting.layout ring) (content_logged setting.layout past lawful ring)

@@ -6,31 +6,30 @@ use Rattle.onvm_base.specs.declared.ids.FrameId.{FrameId}
 use Rattle.onvm_core.specs.declared.step.Item.TheVariants.{Buffer, Number}
 use Rattle.onvm_core.specs.declared.step.Act.{Act}
 use Rattle.onvm_core.specs.declared.step.Act.TheVariants.{Split, Join, Take, Give, Push, Full, Pop, Empty, Look, Post}
-use Rattle.onvm_core.specs.Logs.{Setting, Log, Hand, feeders}
-use Rattle.onvm_core.specs.Receiving.{ReceivePhase, asked, sought, receive_after, receive_phase, done_in, IsBetween, IsMark, MayReceiveFor}
-use Rattle.onvm_core.specs.Handling.{core_hand, handles, MayHandle}
+use Rattle.onvm_core.specs.Logs.{Setting, Log, Hand, feeder_count}
+use Rattle.onvm_core.specs.Receiving.{ReceivePhase, phase_after_ask, phase_after_seek, receive_after, receive_phase, done_count, IsBetween, IsMarkAct}
+use Rattle.onvm_core.specs.Handling.{core_hand, hand_after, MayHandle}
 use Rattle.onvm_core.specs.Sending.{SendPhase, send_after, send_phase, MaySend}
-use Rattle.onvm_core.specs.Blocks.{Kind, MayTick, MayLead}
+use Rattle.onvm_core.specs.Blocks.{RoleKind, MayTick, MayLead}
 use Rattle.onvm_core.specs.Frames.{Load, block_frame}
 use Rattle.onvm_base.specs.declared.outcome.Record.{Record}
 use Rattle.onvm_base.specs.declared.ids.RingId.TheVariants.{Lane, Output, Mail}
-use Rattle.onvm_core.specs.declared.layout.Word.TheVariants.{Pool as PoolWord, Cell, Post as PostWord, Weight}
+use Rattle.onvm_core.specs.declared.layout.Word.TheVariants.{Cell}
 use Rattle.onvm_core.specs.declared.entry.Entry.{Entry}
-use Rattle.onvm_core.specs.Receiving.ReceivePhase.{Between, Asks, Seeks, Sees, Took, Barred}
+use Rattle.onvm_core.specs.Receiving.ReceivePhase.{Between, Took, Barred}
 use Rattle.onvm_core.specs.Sending.SendPhase.{Free, Moves as Sending, TurnsBack}
-use Rattle.onvm_core.specs.Blocks.Kind.{Receives, Sends, Handles, Ticks, Leads}
+use Rattle.onvm_core.specs.Blocks.RoleKind.{Receives, Sends, Handles, Ticks, Leads}
 use Rattle.onvm_core.specs.Frames.Load.{Fresh, Loaded}
 use Rattle.onvm_core.proofs.Loads.{own_load, own_load_after}
 use Rattle.onvm_core.proofs.Hands.{IsKind}
+use Rattle.onvm_core.proofs.InBlock.{InBlock, in_block}
+use Rattle.onvm_core.proofs.InBlock.InBlock.{AsksFirst, AsksOn, SeeksOn, Takes, Enters, FindsFull, Leaves, GivesBack}
 
 -- what a receive role has in a phase
 abbrev pub taken_in : ℕ → ReceivePhase → Option (ℕ × Load)
 taken_in port (Took done buf) = Some (buf, Fresh (record { port = record { 0 = port }; number = done + 1 }))
 taken_in port (Barred done buf ring) = Some (buf, Fresh (record { port = record { 0 = port }; number = done + 1 }))
-taken_in port (Between done) = None
-taken_in port (Asks done k) = None
-taken_in port (Seeks done k) = None
-taken_in port (Sees done index seen) = None
+taken_in port phase = None
 
 -- what a core has in hand
 abbrev pub handled_in : Option Hand → Option (ℕ × Load)
@@ -44,247 +43,110 @@ moved_in (Sending hand) = Some (hand.buf, Loaded hand.parcel)
 moved_in (TurnsBack hand ring) = Some (hand.buf, Loaded hand.parcel)
 
 -- what a role of this kind has after its log
-abbrev pub held_in : Setting → ℕ → Kind → Log → Option (ℕ × Load)
+abbrev pub held_in : Setting → ℕ → RoleKind → Log → Option (ℕ × Load)
 held_in setting role Receives log = taken_in role (receive_phase setting log)
 held_in setting role Sends log = moved_in (send_phase log)
 held_in setting role Handles log = handled_in (core_hand log)
-held_in setting role Ticks log = None
-held_in setting role Leads log = None
+held_in setting role kind log = None
 
 -- Receive roles
 
 asked_none : (setting : Setting) (port done k : ℕ) (told : Option Record)
-    → taken_in port (asked setting done k told) ≡ None
+    → taken_in port (phase_after_ask setting done k told) ≡ None
 asked_none setting port done k None =
-    elim (cases_Bool (k + 1 == feeders setting)) [ inl met ↦ rw met refl | inr unmet ↦ rw unmet refl ]
+    elim (cases_Bool (k + 1 == feeder_count setting)) [ inl met ↦ rw met refl | inr unmet ↦ rw unmet refl ]
 asked_none setting port done k (Some told) = refl
 
-sought_none : (port done k seen : ℕ) (told : Option Record) → taken_in port (sought done k seen told) ≡ None
+sought_none : (port done k seen : ℕ) (told : Option Record) → taken_in port (phase_after_seek done k seen told) ≡ None
 sought_none port done k seen None = elim (cases_Bool (seen == 0)) [ inl met ↦ rw met refl | inr unmet ↦ rw unmet refl ]
 sought_none port done k seen (Some told) = refl
 
 receive_says : (setting : Setting) (port : ℕ) (e : Entry) (phase : ReceivePhase) (act : Act) (own : Option (ℕ × Load))
-    → own ≡ taken_in port phase → MayReceiveFor setting port e phase act
-    → own_load_after (record { port = record { 0 = port }; number = done_in phase + 1 }) act own
+    → own ≡ taken_in port phase → InBlock setting port e phase act
+    → own_load_after (record { port = record { 0 = port }; number = done_count phase + 1 }) act own
     ≡ taken_in port (receive_after setting phase act)
-receive_says setting port e (Between done) (Take b) own h may = absurd may
-receive_says setting port e (Between done) (Give b outcome parcel) own h may = absurd may
-receive_says setting port e (Between done) (Push r (Buffer b parcel)) own h may = absurd may
-receive_says setting port e (Between done) (Push r (Number n)) own h may = absurd may
-receive_says setting port e (Between done) (Pop r (Buffer b parcel)) own h may = absurd may
-receive_says setting port e (Between done) (Pop r (Number n)) own h may = absurd may
-receive_says setting port e (Between done) (Split a) own h may = absurd may
-receive_says setting port e (Between done) (Join a) own h may = absurd may
-receive_says setting port e (Between done) (Full r) own h may = absurd may
-receive_says setting port e (Between done) (Empty a) own h may = absurd may
-receive_says setting port e (Between done) (Look (PostWord f) v t) own h may =
-    h ∙ sym (asked_none setting port done 0 t)
-receive_says setting port e (Between done) (Look (PoolWord f g) v t) own h may = h
-receive_says setting port e (Between done) (Look (Cell f g) v t) own h may = h
-receive_says setting port e (Between done) (Look (Weight f) v t) own h may = h
-receive_says setting port e (Between done) (Post a b) own h may = absurd may
-receive_says setting port e (Asks done k) (Take b) own h may = absurd may
-receive_says setting port e (Asks done k) (Give b outcome parcel) own h may = absurd may
-receive_says setting port e (Asks done k) (Push r (Buffer b parcel)) own h may = absurd may
-receive_says setting port e (Asks done k) (Push r (Number n)) own h may = absurd may
-receive_says setting port e (Asks done k) (Pop r (Buffer b parcel)) own h may = absurd may
-receive_says setting port e (Asks done k) (Pop r (Number n)) own h may = absurd may
-receive_says setting port e (Asks done k) (Split a) own h may = absurd may
-receive_says setting port e (Asks done k) (Join a) own h may = absurd may
-receive_says setting port e (Asks done k) (Full r) own h may = absurd may
-receive_says setting port e (Asks done k) (Empty a) own h may = absurd may
-receive_says setting port e (Asks done k) (Look w v t) own h may = h ∙ sym (asked_none setting port done k t)
-receive_says setting port e (Asks done k) (Post a b) own h may = absurd may
-receive_says setting port e (Seeks done k) (Take b) own h may = absurd may
-receive_says setting port e (Seeks done k) (Give b outcome parcel) own h may = absurd may
-receive_says setting port e (Seeks done k) (Push r (Buffer b parcel)) own h may = absurd may
-receive_says setting port e (Seeks done k) (Push r (Number n)) own h may = absurd may
-receive_says setting port e (Seeks done k) (Pop r (Buffer b parcel)) own h may = absurd may
-receive_says setting port e (Seeks done k) (Pop r (Number n)) own h may = absurd may
-receive_says setting port e (Seeks done k) (Split a) own h may = absurd may
-receive_says setting port e (Seeks done k) (Join a) own h may = absurd may
-receive_says setting port e (Seeks done k) (Full r) own h may = absurd may
-receive_says setting port e (Seeks done k) (Empty a) own h may = absurd may
-receive_says setting port e (Seeks done k) (Look w v t) own h may = h ∙ sym (sought_none port done k v t)
-receive_says setting port e (Seeks done k) (Post a b) own h may = absurd may
-receive_says setting port e (Sees done index seen) (Take b) own h may = refl
-receive_says setting port e (Sees done index seen) (Give b outcome parcel) own h may = absurd may
-receive_says setting port e (Sees done index seen) (Push r (Buffer b parcel)) own h may = absurd may
-receive_says setting port e (Sees done index seen) (Push r (Number n)) own h may = absurd may
-receive_says setting port e (Sees done index seen) (Pop r (Buffer b parcel)) own h may = absurd may
-receive_says setting port e (Sees done index seen) (Pop r (Number n)) own h may = absurd may
-receive_says setting port e (Sees done index seen) (Split a) own h may = absurd may
-receive_says setting port e (Sees done index seen) (Join a) own h may = absurd may
-receive_says setting port e (Sees done index seen) (Full r) own h may = absurd may
-receive_says setting port e (Sees done index seen) (Empty a) own h may = absurd may
-receive_says setting port e (Sees done index seen) (Look w v t) own h may = absurd may
-receive_says setting port e (Sees done index seen) (Post a b) own h may = absurd may
-receive_says setting port e (Took done buf) (Take b) own h may = absurd may
-receive_says setting port e (Took done buf) (Give b outcome parcel) own h may = refl
-receive_says setting port e (Took done buf) (Push r (Buffer b parcel)) own h may = refl
-receive_says setting port e (Took done buf) (Push r (Number n)) own h may = absurd may
-receive_says setting port e (Took done buf) (Pop r (Buffer b parcel)) own h may = absurd may
-receive_says setting port e (Took done buf) (Pop r (Number n)) own h may = absurd may
-receive_says setting port e (Took done buf) (Split a) own h may = absurd may
-receive_says setting port e (Took done buf) (Join a) own h may = absurd may
-receive_says setting port e (Took done buf) (Full r) own h may = h
-receive_says setting port e (Took done buf) (Empty a) own h may = absurd may
-receive_says setting port e (Took done buf) (Look w v t) own h may = absurd may
-receive_says setting port e (Took done buf) (Post a b) own h may = absurd may
-receive_says setting port e (Barred done buf ring) (Take b) own h may = absurd may
-receive_says setting port e (Barred done buf ring) (Give b outcome parcel) own h may = refl
-receive_says setting port e (Barred done buf ring) (Push r (Buffer b parcel)) own h may = absurd may
-receive_says setting port e (Barred done buf ring) (Push r (Number n)) own h may = absurd may
-receive_says setting port e (Barred done buf ring) (Pop r (Buffer b parcel)) own h may = absurd may
-receive_says setting port e (Barred done buf ring) (Pop r (Number n)) own h may = absurd may
-receive_says setting port e (Barred done buf ring) (Split a) own h may = absurd may
-receive_says setting port e (Barred done buf ring) (Join a) own h may = absurd may
-receive_says setting port e (Barred done buf ring) (Full r) own h may = absurd may
-receive_says setting port e (Barred done buf ring) (Empty a) own h may = absurd may
-receive_says setting port e (Barred done buf ring) (Look w v t) own h may = absurd may
-receive_says setting port e (Barred done buf ring) (Post a b) own h may = absurd may
+receive_says setting port e phase act own h (AsksFirst done f v t may) = h ∙ sym (asked_none setting port done 0 t)
+receive_says setting port e phase act own h (AsksOn done k w v t may) = h ∙ sym (asked_none setting port done k t)
+receive_says setting port e phase act own h (SeeksOn done k w v t may) = h ∙ sym (sought_none port done k v t)
+receive_says setting port e phase act own h (Takes done index seen b may) = refl
+receive_says setting port e phase act own h (Enters done buf ring b parcel may) = refl
+receive_says setting port e phase act own h (FindsFull done buf ring may) = h
+receive_says setting port e phase act own h (Leaves done buf b q parcel may) = refl
+receive_says setting port e phase act own h (GivesBack done buf ring b outcome parcel may) = refl
 
 mark_says : (setting : Setting) (port : ℕ) (phase : ReceivePhase) (act : Act) (fresh : FrameId)
-    (own : Option (ℕ × Load)) → own ≡ taken_in port phase → IsBetween phase → IsMark setting port act
+    (own : Option (ℕ × Load)) → own ≡ taken_in port phase → IsBetween phase → IsMarkAct setting port act
     → own_load_after fresh act own ≡ taken_in port (receive_after setting phase act)
-mark_says setting port (Between done) (Take b) fresh own h between may = absurd may
-mark_says setting port (Between done) (Give b outcome parcel) fresh own h between may = absurd may
 mark_says setting port (Between done) (Push r (Buffer b parcel)) fresh own h between may = absurd may
-mark_says setting port (Between done) (Push r (Number n)) fresh own h between may = absurd may
 mark_says setting port (Between done) (Pop r (Buffer b parcel)) fresh own h between may = absurd may
-mark_says setting port (Between done) (Pop r (Number n)) fresh own h between may = absurd may
-mark_says setting port (Between done) (Split a) fresh own h between may = absurd may
-mark_says setting port (Between done) (Join a) fresh own h between may = absurd may
-mark_says setting port (Between done) (Full r) fresh own h between may = absurd may
-mark_says setting port (Between done) (Empty a) fresh own h between may = absurd may
 mark_says setting port (Between done) (Look (Cell (Lane f p) at) v t) fresh own h between may = h
-mark_says setting port (Between done) (Look (Cell (Output f) at) v t) fresh own h between may = absurd may
-mark_says setting port (Between done) (Look (Cell (Mail f) at) v t) fresh own h between may = absurd may
-mark_says setting port (Between done) (Look (PostWord f) v t) fresh own h between may = absurd may
-mark_says setting port (Between done) (Look (PoolWord f g) v t) fresh own h between may = absurd may
-mark_says setting port (Between done) (Look (Weight f) v t) fresh own h between may = absurd may
 mark_says setting port (Between done) (Post a b) fresh own h between may = h
-mark_says setting port (Asks done k) act fresh own h between may = absurd between
-mark_says setting port (Seeks done k) act fresh own h between may = absurd between
-mark_says setting port (Sees done index seen) act fresh own h between may = absurd between
-mark_says setting port (Took done buf) act fresh own h between may = absurd between
-mark_says setting port (Barred done buf ring) act fresh own h between may = absurd between
+mark_says setting port (Between done) act fresh own h between may = absurd may
+mark_says setting port phase act fresh own h between may = absurd between
 
 -- Cores
 
 core_says : (setting : Setting) (role : ℕ) (before : Log) (act : Act) (fresh : FrameId) (own : Option (ℕ × Load))
     (hand : Option Hand) → own ≡ handled_in hand → MayHandle setting role before act
-    → own_load_after fresh act own ≡ handled_in (handles act hand)
-core_says setting role before (Take b) fresh own hand h may = absurd may
-core_says setting role before (Give b outcome parcel) fresh own hand h may = absurd may
+    → own_load_after fresh act own ≡ handled_in (hand_after act hand)
 core_says setting role before (Push (Output f) (Buffer b parcel)) fresh own hand h may = refl
 core_says setting role before (Push (Lane f p) (Buffer b parcel)) fresh own hand h may = absurd may
-core_says setting role before (Push (Mail f) (Buffer b parcel)) fresh own hand h may = absurd may
-core_says setting role before (Push (Output f) (Number n)) fresh own hand h may = absurd may
-core_says setting role before (Push (Lane f p) (Number n)) fresh own hand h may = absurd may
 core_says setting role before (Push (Mail f) (Number n)) fresh own hand h may = h
 core_says setting role before (Pop (Lane f p) (Buffer b parcel)) fresh own hand h may = refl
 core_says setting role before (Pop (Output f) (Buffer b parcel)) fresh own hand h may = absurd may
 core_says setting role before (Pop (Mail f) (Buffer b parcel)) fresh own hand h may = absurd may
-core_says setting role before (Pop (Lane f p) (Number n)) fresh own hand h may = absurd may
-core_says setting role before (Pop (Output f) (Number n)) fresh own hand h may = absurd may
-core_says setting role before (Pop (Mail f) (Number n)) fresh own hand h may = absurd may
-core_says setting role before (Split a) fresh own hand h may = absurd may
-core_says setting role before (Join a) fresh own hand h may = absurd may
 core_says setting role before (Full r) fresh own hand h may = h
 core_says setting role before (Empty a) fresh own hand h may = h
 core_says setting role before (Look w v t) fresh own hand h may = h
-core_says setting role before (Post a b) fresh own hand h may = absurd may
+core_says setting role before act fresh own hand h may = absurd may
 
 -- Transmit roles
 
 send_says : (setting : Setting) (feeder : ℕ) (phase : SendPhase) (act : Act) (fresh : FrameId) (own : Option (ℕ × Load))
     → own ≡ moved_in phase → MaySend setting feeder phase act
     → own_load_after fresh act own ≡ moved_in (send_after phase act)
-send_says setting feeder Free (Take b) fresh own h may = absurd may
-send_says setting feeder Free (Give b outcome parcel) fresh own h may = absurd may
 send_says setting feeder Free (Push r (Buffer b parcel)) fresh own h may = absurd may
-send_says setting feeder Free (Push r (Number n)) fresh own h may = absurd may
 send_says setting feeder Free (Pop (Output f) (Buffer b parcel)) fresh own h may = refl
 send_says setting feeder Free (Pop (Lane f p) (Buffer b parcel)) fresh own h may = absurd may
 send_says setting feeder Free (Pop (Mail f) (Buffer b parcel)) fresh own h may = absurd may
-send_says setting feeder Free (Pop (Output f) (Number n)) fresh own h may = absurd may
-send_says setting feeder Free (Pop (Lane f p) (Number n)) fresh own h may = absurd may
-send_says setting feeder Free (Pop (Mail f) (Number n)) fresh own h may = absurd may
-send_says setting feeder Free (Split a) fresh own h may = absurd may
-send_says setting feeder Free (Join a) fresh own h may = absurd may
-send_says setting feeder Free (Full r) fresh own h may = absurd may
 send_says setting feeder Free (Empty a) fresh own h may = h
 send_says setting feeder Free (Look w v t) fresh own h may = h
 send_says setting feeder Free (Post a b) fresh own h may = h
-send_says setting feeder (Sending hand) (Take b) fresh own h may = absurd may
 send_says setting feeder (Sending hand) (Give b outcome parcel) fresh own h may = refl
 send_says setting feeder (Sending hand) (Push r (Buffer b parcel)) fresh own h may = refl
-send_says setting feeder (Sending hand) (Push r (Number n)) fresh own h may = absurd may
 send_says setting feeder (Sending hand) (Pop r (Buffer b parcel)) fresh own h may = absurd may
-send_says setting feeder (Sending hand) (Pop r (Number n)) fresh own h may = absurd may
-send_says setting feeder (Sending hand) (Split a) fresh own h may = absurd may
-send_says setting feeder (Sending hand) (Join a) fresh own h may = absurd may
 send_says setting feeder (Sending hand) (Full r) fresh own h may = h
-send_says setting feeder (Sending hand) (Empty a) fresh own h may = absurd may
-send_says setting feeder (Sending hand) (Look w v t) fresh own h may = absurd may
-send_says setting feeder (Sending hand) (Post a b) fresh own h may = absurd may
-send_says setting feeder (TurnsBack hand ring) (Take b) fresh own h may = absurd may
 send_says setting feeder (TurnsBack hand ring) (Give b outcome parcel) fresh own h may = refl
 send_says setting feeder (TurnsBack hand ring) (Push r (Buffer b parcel)) fresh own h may = absurd may
-send_says setting feeder (TurnsBack hand ring) (Push r (Number n)) fresh own h may = absurd may
 send_says setting feeder (TurnsBack hand ring) (Pop r (Buffer b parcel)) fresh own h may = absurd may
-send_says setting feeder (TurnsBack hand ring) (Pop r (Number n)) fresh own h may = absurd may
-send_says setting feeder (TurnsBack hand ring) (Split a) fresh own h may = absurd may
-send_says setting feeder (TurnsBack hand ring) (Join a) fresh own h may = absurd may
-send_says setting feeder (TurnsBack hand ring) (Full r) fresh own h may = absurd may
-send_says setting feeder (TurnsBack hand ring) (Empty a) fresh own h may = absurd may
-send_says setting feeder (TurnsBack hand ring) (Look w v t) fresh own h may = absurd may
-send_says setting feeder (TurnsBack hand ring) (Post a b) fresh own h may = absurd may
+send_says setting feeder phase act fresh own h may = absurd may
 
 -- The tick role and that of the first token have nothing
 
 tick_says : (setting : Setting) (act : Act) (fresh : FrameId) (own : Option (ℕ × Load))
     → own ≡ None → MayTick setting act
     → own_load_after fresh act own ≡ None
-tick_says setting (Take b) fresh own h may = absurd may
-tick_says setting (Give b outcome parcel) fresh own h may = absurd may
 tick_says setting (Push r (Buffer b parcel)) fresh own h may = absurd may
-tick_says setting (Push r (Number n)) fresh own h may = absurd may
 tick_says setting (Pop (Lane f p) (Buffer b parcel)) fresh own h may = absurd may
-tick_says setting (Pop (Output f) (Buffer b parcel)) fresh own h may = absurd may
-tick_says setting (Pop (Mail f) (Buffer b parcel)) fresh own h may = absurd may
 tick_says setting (Pop r (Number n)) fresh own h may = h
-tick_says setting (Split a) fresh own h may = absurd may
-tick_says setting (Join a) fresh own h may = absurd may
-tick_says setting (Full r) fresh own h may = absurd may
 tick_says setting (Empty a) fresh own h may = h
-tick_says setting (Look w v t) fresh own h may = absurd may
 tick_says setting (Post a b) fresh own h may = h
+tick_says setting act fresh own h may = absurd may
 
 lead_says : (act : Act) (fresh : FrameId) (own : Option (ℕ × Load)) → own ≡ None → MayLead act
     → own_load_after fresh act own ≡ None
-lead_says (Take b) fresh own h may = absurd may
-lead_says (Give b outcome parcel) fresh own h may = absurd may
 lead_says (Push r (Buffer b parcel)) fresh own h may = absurd may
-lead_says (Push r (Number n)) fresh own h may = absurd may
 lead_says (Pop r (Buffer b parcel)) fresh own h may = absurd may
-lead_says (Pop r (Number n)) fresh own h may = absurd may
 lead_says (Split a) fresh own h may = h
 lead_says (Join a) fresh own h may = h
-lead_says (Full r) fresh own h may = absurd may
-lead_says (Empty a) fresh own h may = absurd may
 lead_says (Look w v t) fresh own h may = h
-lead_says (Post a b) fresh own h may = absurd may
+lead_says act fresh own h may = absurd may
 
 -- a role's own log says just what its phase says
-pub own_says : (setting : Setting) (role : ℕ) (kind : Kind) (log : Log) → IsKind setting role kind log
+pub own_says : (setting : Setting) (role : ℕ) (kind : RoleKind) (log : Log) → IsKind setting role kind log
     → own_load setting role log ≡ held_in setting role kind log
 own_says setting role Receives [] h = refl
-own_says setting role Sends [] h = refl
-own_says setting role Handles [] h = refl
-own_says setting role Ticks [] h = refl
-own_says setting role Leads [] h = refl
+own_says setting role kind [] h = refl
 own_says setting role Receives (act ∷ before) h =
     elim h.0 [
       | inl mark ↦
@@ -292,7 +154,8 @@ own_says setting role Receives (act ∷ before) h =
           (own_load setting role before) (own_says setting role Receives before h.1) mark.0 mark.1
       | inr block ↦
           receive_says setting role block.0 (receive_phase setting before) act (own_load setting role before)
-          (own_says setting role Receives before h.1) block.2
+          (own_says setting role Receives before h.1)
+          (in_block setting role block.0 (receive_phase setting before) act block.2)
     ]
 own_says setting role Sends (act ∷ before) h =
     send_says setting role (send_phase before) act (block_frame setting role before) (own_load setting role before)
@@ -315,187 +178,65 @@ IsFreeFor own (Pop r (Buffer b parcel)) = own ≡ None
 IsFreeFor own _ = Unit {0}
 
 receive_frees : (setting : Setting) (port : ℕ) (e : Entry) (phase : ReceivePhase) (act : Act) (own : Option (ℕ × Load))
-    → own ≡ taken_in port phase → MayReceiveFor setting port e phase act
+    → own ≡ taken_in port phase → InBlock setting port e phase act
     → IsFreeFor own act
-receive_frees setting port e (Between done) (Take b) own h may = absurd may
-receive_frees setting port e (Between done) (Give b outcome parcel) own h may = tt
-receive_frees setting port e (Between done) (Push r (Buffer b parcel)) own h may = tt
-receive_frees setting port e (Between done) (Push r (Number n)) own h may = tt
-receive_frees setting port e (Between done) (Pop r (Buffer b parcel)) own h may = absurd may
-receive_frees setting port e (Between done) (Pop r (Number n)) own h may = tt
-receive_frees setting port e (Between done) (Split a) own h may = tt
-receive_frees setting port e (Between done) (Join a) own h may = tt
-receive_frees setting port e (Between done) (Full r) own h may = tt
-receive_frees setting port e (Between done) (Empty a) own h may = tt
-receive_frees setting port e (Between done) (Look w v t) own h may = tt
-receive_frees setting port e (Between done) (Post a b) own h may = tt
-receive_frees setting port e (Asks done k) (Take b) own h may = absurd may
-receive_frees setting port e (Asks done k) (Give b outcome parcel) own h may = tt
-receive_frees setting port e (Asks done k) (Push r (Buffer b parcel)) own h may = tt
-receive_frees setting port e (Asks done k) (Push r (Number n)) own h may = tt
-receive_frees setting port e (Asks done k) (Pop r (Buffer b parcel)) own h may = absurd may
-receive_frees setting port e (Asks done k) (Pop r (Number n)) own h may = tt
-receive_frees setting port e (Asks done k) (Split a) own h may = tt
-receive_frees setting port e (Asks done k) (Join a) own h may = tt
-receive_frees setting port e (Asks done k) (Full r) own h may = tt
-receive_frees setting port e (Asks done k) (Empty a) own h may = tt
-receive_frees setting port e (Asks done k) (Look w v t) own h may = tt
-receive_frees setting port e (Asks done k) (Post a b) own h may = tt
-receive_frees setting port e (Seeks done k) (Take b) own h may = absurd may
-receive_frees setting port e (Seeks done k) (Give b outcome parcel) own h may = tt
-receive_frees setting port e (Seeks done k) (Push r (Buffer b parcel)) own h may = tt
-receive_frees setting port e (Seeks done k) (Push r (Number n)) own h may = tt
-receive_frees setting port e (Seeks done k) (Pop r (Buffer b parcel)) own h may = absurd may
-receive_frees setting port e (Seeks done k) (Pop r (Number n)) own h may = tt
-receive_frees setting port e (Seeks done k) (Split a) own h may = tt
-receive_frees setting port e (Seeks done k) (Join a) own h may = tt
-receive_frees setting port e (Seeks done k) (Full r) own h may = tt
-receive_frees setting port e (Seeks done k) (Empty a) own h may = tt
-receive_frees setting port e (Seeks done k) (Look w v t) own h may = tt
-receive_frees setting port e (Seeks done k) (Post a b) own h may = tt
-receive_frees setting port e (Sees done index seen) (Take b) own h may = h
-receive_frees setting port e (Sees done index seen) (Give b outcome parcel) own h may = tt
-receive_frees setting port e (Sees done index seen) (Push r (Buffer b parcel)) own h may = tt
-receive_frees setting port e (Sees done index seen) (Push r (Number n)) own h may = tt
-receive_frees setting port e (Sees done index seen) (Pop r (Buffer b parcel)) own h may = absurd may
-receive_frees setting port e (Sees done index seen) (Pop r (Number n)) own h may = tt
-receive_frees setting port e (Sees done index seen) (Split a) own h may = tt
-receive_frees setting port e (Sees done index seen) (Join a) own h may = tt
-receive_frees setting port e (Sees done index seen) (Full r) own h may = tt
-receive_frees setting port e (Sees done index seen) (Empty a) own h may = tt
-receive_frees setting port e (Sees done index seen) (Look w v t) own h may = tt
-receive_frees setting port e (Sees done index seen) (Post a b) own h may = tt
-receive_frees setting port e (Took done buf) (Take b) own h may = absurd may
-receive_frees setting port e (Took done buf) (Give b outcome parcel) own h may = tt
-receive_frees setting port e (Took done buf) (Push r (Buffer b parcel)) own h may = tt
-receive_frees setting port e (Took done buf) (Push r (Number n)) own h may = tt
-receive_frees setting port e (Took done buf) (Pop r (Buffer b parcel)) own h may = absurd may
-receive_frees setting port e (Took done buf) (Pop r (Number n)) own h may = tt
-receive_frees setting port e (Took done buf) (Split a) own h may = tt
-receive_frees setting port e (Took done buf) (Join a) own h may = tt
-receive_frees setting port e (Took done buf) (Full r) own h may = tt
-receive_frees setting port e (Took done buf) (Empty a) own h may = tt
-receive_frees setting port e (Took done buf) (Look w v t) own h may = tt
-receive_frees setting port e (Took done buf) (Post a b) own h may = tt
-receive_frees setting port e (Barred done buf ring) (Take b) own h may = absurd may
-receive_frees setting port e (Barred done buf ring) (Give b outcome parcel) own h may = tt
-receive_frees setting port e (Barred done buf ring) (Push r (Buffer b parcel)) own h may = tt
-receive_frees setting port e (Barred done buf ring) (Push r (Number n)) own h may = tt
-receive_frees setting port e (Barred done buf ring) (Pop r (Buffer b parcel)) own h may = absurd may
-receive_frees setting port e (Barred done buf ring) (Pop r (Number n)) own h may = tt
-receive_frees setting port e (Barred done buf ring) (Split a) own h may = tt
-receive_frees setting port e (Barred done buf ring) (Join a) own h may = tt
-receive_frees setting port e (Barred done buf ring) (Full r) own h may = tt
-receive_frees setting port e (Barred done buf ring) (Empty a) own h may = tt
-receive_frees setting port e (Barred done buf ring) (Look w v t) own h may = tt
-receive_frees setting port e (Barred done buf ring) (Post a b) own h may = tt
+receive_frees setting port e phase act own h (Takes done index seen b may) = h
+receive_frees setting port e phase act own h (AsksFirst done f v t may) = tt
+receive_frees setting port e phase act own h (AsksOn done k w v t may) = tt
+receive_frees setting port e phase act own h (SeeksOn done k w v t may) = tt
+receive_frees setting port e phase act own h (Enters done buf ring b parcel may) = tt
+receive_frees setting port e phase act own h (FindsFull done buf ring may) = tt
+receive_frees setting port e phase act own h (Leaves done buf b q parcel may) = tt
+receive_frees setting port e phase act own h (GivesBack done buf ring b outcome parcel may) = tt
 
-mark_frees : (setting : Setting) (feeder : ℕ) (act : Act) (own : Option (ℕ × Load)) → IsMark setting feeder act
+mark_frees : (setting : Setting) (feeder : ℕ) (act : Act) (own : Option (ℕ × Load)) → IsMarkAct setting feeder act
     → IsFreeFor own act
 mark_frees setting feeder (Take b) own may = absurd may
-mark_frees setting feeder (Give b outcome parcel) own may = tt
 mark_frees setting feeder (Push r (Buffer b parcel)) own may = tt
-mark_frees setting feeder (Push r (Number n)) own may = tt
 mark_frees setting feeder (Pop r (Buffer b parcel)) own may = absurd may
-mark_frees setting feeder (Pop r (Number n)) own may = tt
-mark_frees setting feeder (Split a) own may = tt
-mark_frees setting feeder (Join a) own may = tt
-mark_frees setting feeder (Full r) own may = tt
-mark_frees setting feeder (Empty a) own may = tt
-mark_frees setting feeder (Look w v t) own may = tt
-mark_frees setting feeder (Post a b) own may = tt
+mark_frees setting feeder act own may = tt
 
 core_frees : (setting : Setting) (role : ℕ) (before : Log) (act : Act) (own : Option (ℕ × Load))
     → own ≡ handled_in (core_hand before) → MayHandle setting role before act
     → IsFreeFor own act
 core_frees setting role before (Take b) own h may = absurd may
-core_frees setting role before (Give b outcome parcel) own h may = tt
 core_frees setting role before (Push r (Buffer b parcel)) own h may = tt
-core_frees setting role before (Push r (Number n)) own h may = tt
 core_frees setting role before (Pop (Lane f p) (Buffer b parcel)) own h may = h ∙ ap handled_in may.free
 core_frees setting role before (Pop (Output f) (Buffer b parcel)) own h may = absurd may
 core_frees setting role before (Pop (Mail f) (Buffer b parcel)) own h may = absurd may
-core_frees setting role before (Pop r (Number n)) own h may = tt
-core_frees setting role before (Split a) own h may = tt
-core_frees setting role before (Join a) own h may = tt
-core_frees setting role before (Full r) own h may = tt
-core_frees setting role before (Empty a) own h may = tt
-core_frees setting role before (Look w v t) own h may = tt
-core_frees setting role before (Post a b) own h may = tt
+core_frees setting role before act own h may = tt
 
 send_frees : (setting : Setting) (feeder : ℕ) (phase : SendPhase) (act : Act) (own : Option (ℕ × Load))
     → own ≡ moved_in phase → MaySend setting feeder phase act
     → IsFreeFor own act
 send_frees setting feeder Free (Take b) own h may = absurd may
-send_frees setting feeder Free (Give b outcome parcel) own h may = tt
 send_frees setting feeder Free (Push r (Buffer b parcel)) own h may = tt
-send_frees setting feeder Free (Push r (Number n)) own h may = tt
 send_frees setting feeder Free (Pop (Lane f p) (Buffer b parcel)) own h may = absurd may
 send_frees setting feeder Free (Pop (Output f) (Buffer b parcel)) own h may = h
 send_frees setting feeder Free (Pop (Mail f) (Buffer b parcel)) own h may = absurd may
-send_frees setting feeder Free (Pop r (Number n)) own h may = tt
-send_frees setting feeder Free (Split a) own h may = tt
-send_frees setting feeder Free (Join a) own h may = tt
-send_frees setting feeder Free (Full r) own h may = tt
-send_frees setting feeder Free (Empty a) own h may = tt
-send_frees setting feeder Free (Look w v t) own h may = tt
-send_frees setting feeder Free (Post a b) own h may = tt
 send_frees setting feeder (Sending hand) (Take b) own h may = absurd may
-send_frees setting feeder (Sending hand) (Give b outcome parcel) own h may = tt
 send_frees setting feeder (Sending hand) (Push r (Buffer b parcel)) own h may = tt
-send_frees setting feeder (Sending hand) (Push r (Number n)) own h may = tt
 send_frees setting feeder (Sending hand) (Pop r (Buffer b parcel)) own h may = absurd may
-send_frees setting feeder (Sending hand) (Pop r (Number n)) own h may = tt
-send_frees setting feeder (Sending hand) (Split a) own h may = tt
-send_frees setting feeder (Sending hand) (Join a) own h may = tt
-send_frees setting feeder (Sending hand) (Full r) own h may = tt
-send_frees setting feeder (Sending hand) (Empty a) own h may = tt
-send_frees setting feeder (Sending hand) (Look w v t) own h may = tt
-send_frees setting feeder (Sending hand) (Post a b) own h may = tt
 send_frees setting feeder (TurnsBack hand ring) (Take b) own h may = absurd may
-send_frees setting feeder (TurnsBack hand ring) (Give b outcome parcel) own h may = tt
 send_frees setting feeder (TurnsBack hand ring) (Push r (Buffer b parcel)) own h may = tt
-send_frees setting feeder (TurnsBack hand ring) (Push r (Number n)) own h may = tt
 send_frees setting feeder (TurnsBack hand ring) (Pop r (Buffer b parcel)) own h may = absurd may
-send_frees setting feeder (TurnsBack hand ring) (Pop r (Number n)) own h may = tt
-send_frees setting feeder (TurnsBack hand ring) (Split a) own h may = tt
-send_frees setting feeder (TurnsBack hand ring) (Join a) own h may = tt
-send_frees setting feeder (TurnsBack hand ring) (Full r) own h may = tt
-send_frees setting feeder (TurnsBack hand ring) (Empty a) own h may = tt
-send_frees setting feeder (TurnsBack hand ring) (Look w v t) own h may = tt
-send_frees setting feeder (TurnsBack hand ring) (Post a b) own h may = tt
+send_frees setting feeder phase act own h may = tt
 
 tick_frees : (setting : Setting) (act : Act) (own : Option (ℕ × Load)) → MayTick setting act → IsFreeFor own act
 tick_frees setting (Take b) own may = absurd may
-tick_frees setting (Give b outcome parcel) own may = tt
 tick_frees setting (Push r (Buffer b parcel)) own may = tt
-tick_frees setting (Push r (Number n)) own may = tt
 tick_frees setting (Pop (Lane f p) (Buffer b parcel)) own may = absurd may
 tick_frees setting (Pop (Output f) (Buffer b parcel)) own may = absurd may
 tick_frees setting (Pop (Mail f) (Buffer b parcel)) own may = absurd may
-tick_frees setting (Pop r (Number n)) own may = tt
-tick_frees setting (Split a) own may = tt
-tick_frees setting (Join a) own may = tt
-tick_frees setting (Full r) own may = tt
-tick_frees setting (Empty a) own may = tt
-tick_frees setting (Look w v t) own may = tt
-tick_frees setting (Post a b) own may = tt
+tick_frees setting act own may = tt
 
 lead_frees : (act : Act) (own : Option (ℕ × Load)) → MayLead act → IsFreeFor own act
 lead_frees (Take b) own may = absurd may
-lead_frees (Give b outcome parcel) own may = tt
 lead_frees (Push r (Buffer b parcel)) own may = tt
-lead_frees (Push r (Number n)) own may = tt
 lead_frees (Pop r (Buffer b parcel)) own may = absurd may
-lead_frees (Pop r (Number n)) own may = tt
-lead_frees (Split a) own may = tt
-lead_frees (Join a) own may = tt
-lead_frees (Full r) own may = tt
-lead_frees (Empty a) own may = tt
-lead_frees (Look w v t) own may = tt
-lead_frees (Post a b) own may = tt
+lead_frees act own may = tt
 
-pub frees_of : (setting : Setting) (role : ℕ) (kind : Kind) (log : Log) (act : Act)
+pub frees_of : (setting : Setting) (role : ℕ) (kind : RoleKind) (log : Log) (act : Act)
     → IsKind setting role kind (act ∷ log)
     → IsFreeFor (own_load setting role log) act
 frees_of setting role Receives log act h =
@@ -503,7 +244,8 @@ frees_of setting role Receives log act h =
       | inl mark ↦ mark_frees setting role act (own_load setting role log) mark.1
       | inr block ↦
           receive_frees setting role block.0 (receive_phase setting log) act (own_load setting role log)
-          (own_says setting role Receives log h.1) block.2
+          (own_says setting role Receives log h.1)
+          (in_block setting role block.0 (receive_phase setting log) act block.2)
     ]
 frees_of setting role Sends log act h =
     send_frees setting role (send_phase log) act (own_load setting role log) (own_says setting role Sends log h.1) h.0

@@ -3,9 +3,9 @@ use Rattle.std.proofs.Common.{◌≡◌, ℕ, ◌<◌, suc, [], ◌∷◌, refl,
 use Rattle.onvm_base.specs.declared.ids.RingId.TheVariants.{Lane, Output}
 use Rattle.onvm_base.specs.declared.outcome.Outcome.TheVariants.{Sent, Dropped}
 use Rattle.onvm_base.specs.declared.outcome.Why.TheVariants.{Asked}
-use Rattle.onvm_core.specs.declared.layout.Word.TheVariants.{Pool as PoolWord, Cell, Post as PostWord, Weight}
+use Rattle.onvm_core.specs.declared.layout.Word.TheVariants.{Cell, Post as PostWord, Weight}
 use Rattle.onvm_core.specs.declared.step.Act.{Act}
-use Rattle.onvm_core.specs.declared.step.Act.TheVariants.{Split, Join, Take, Give, Push, Full, Pop, Empty, Look, Post}
+use Rattle.onvm_core.specs.declared.step.Act.TheVariants.{Take, Give, Push, Pop, Look}
 use Rattle.onvm_core.specs.declared.step.Item.TheVariants.{Buffer}
 use Rattle.onvm_core.specs.Logs.{Log, Hand, entry_parcel}
 use Rattle.onvm_core.specs.Receiving.{MayReceiveFor}
@@ -48,18 +48,7 @@ looks (act ∷ before) = looks before
 
 more : (act : Act) (before : Log) → 0 < looks before → 0 < looks (act ∷ before)
 more (Look (Cell ring at) seen told) before some = omega arith
-more (Look (PoolWord p i) seen told) before some = some
-more (Look (PostWord k) seen told) before some = some
-more (Look (Weight g) seen told) before some = some
-more (Split a) before some = some
-more (Join a) before some = some
-more (Take b) before some = some
-more (Give b o p) before some = some
-more (Push r i) before some = some
-more (Full r) before some = some
-more (Pop r i) before some = some
-more (Empty r) before some = some
-more (Post w v) before some = some
+more act before some = some
 
 saw_some : (log : Log) → SawRoom setting f log → 0 < looks log
 saw_some log (ByLook before) = omega arith

@@ -7,7 +7,7 @@ use Rattle.onvm_core.specs.declared.step.Step.{Step}
 use Rattle.onvm_core.specs.declared.step.Act.TheVariants.{Push}
 use Rattle.onvm_core.specs.Layouts.{same_ring}
 use Rattle.onvm_core.specs.History.{History, pushed_on, pushes}
-use Rattle.onvm_core.specs.Words.{standing, number_of, bits}
+use Rattle.onvm_core.specs.Words.{number_in_cell, number_of, bits}
 use Rattle.std.proofs.lemmas.List.{take_more, reverse-append, take-append-drop, append-nil, drop_all, length-drop}
 use Rattle.onvm_core.proofs.Lists.{get_front, get_last, if_met}
 
@@ -60,35 +60,35 @@ pushed_at ring r xs i step item within at acts same =
     (length (pushed_on ring (reverse (take i xs)))) item (get_last (pushed_on ring (reverse (take i xs))) item))
 
 -- what stands in a cell, one item on
-standing_from : (size at n k : ℕ) (items : List Item) (item : Item) → slice_get items k ≡ Some item
-    → standing size at n (drop k items)
-    ≡ (if n % size == at then number_of item else standing size at (n + 1) (drop (suc k) items))
-standing_from size at n k [] item e = absurd (cc)
-standing_from size at n zero (x ∷ items) item e =
+cell_from : (size at n k : ℕ) (items : List Item) (item : Item) → slice_get items k ≡ Some item
+    → number_in_cell size at n (drop k items)
+    ≡ (if n % size == at then number_of item else number_in_cell size at (n + 1) (drop (suc k) items))
+cell_from size at n k [] item e = absurd (cc)
+cell_from size at n zero (x ∷ items) item e =
     let same : x ≡ item = cc in
-    ap (λ (i : Item). if n % size == at then number_of i else standing size at (n + 1) items) same
-standing_from size at n (suc k) (x ∷ items) item e = standing_from size at n k items item e
+    ap (λ (i : Item). if n % size == at then number_of i else number_in_cell size at (n + 1) items) same
+cell_from size at n (suc k) (x ∷ items) item e = cell_from size at n k items item e
 
-standing_past : (size at n k : ℕ) (items : List Item) → k < length items → (n % size == at) ≡ false
-    → standing size at n (drop k items) ≡ standing size at (n + 1) (drop (suc k) items)
-standing_past size at n k [] less e = absurd (omega arith)
-standing_past size at n zero (x ∷ items) less e = rw e refl
-standing_past size at n (suc k) (x ∷ items) less e = standing_past size at n k items (omega arith) e
+cell_past : (size at n k : ℕ) (items : List Item) → k < length items → (n % size == at) ≡ false
+    → number_in_cell size at n (drop k items) ≡ number_in_cell size at (n + 1) (drop (suc k) items)
+cell_past size at n k [] less e = absurd (omega arith)
+cell_past size at n zero (x ∷ items) less e = rw e refl
+cell_past size at n (suc k) (x ∷ items) less e = cell_past size at n k items (omega arith) e
 
-pub standing_here : (size at k : ℕ) (items : List Item) (item : Item)
+pub cell_here : (size at k : ℕ) (items : List Item) (item : Item)
     → slice_get items k ≡ Some item → (k % size == at) ≡ true
-    → standing size at k (drop k items) ≡ number_of item
-standing_here size at k items item e met =
-    standing_from size at k k items item e
-    ∙ if_met (k % size == at) (number_of item) (standing size at (k + 1) (drop (suc k) items)) met
+    → number_in_cell size at k (drop k items) ≡ number_of item
+cell_here size at k items item e met =
+    cell_from size at k k items item e
+    ∙ if_met (k % size == at) (number_of item) (number_in_cell size at (k + 1) (drop (suc k) items)) met
 
-pub standing_next : (size at k : ℕ) (items : List Item) → k < length items → (k % size == at) ≡ false
-    → standing size at k (drop k items) ≡ standing size at (k + 1) (drop (k + 1) items)
-standing_next size at k items less e =
-    standing_past size at k k items less e ∙ ap (λ (m : ℕ). standing size at (k + 1) (drop m items)) (sym (add-one k))
+pub cell_next : (size at k : ℕ) (items : List Item) → k < length items → (k % size == at) ≡ false
+    → number_in_cell size at k (drop k items) ≡ number_in_cell size at (k + 1) (drop (k + 1) items)
+cell_next size at k items less e =
+    cell_past size at k k items less e ∙ ap (λ (m : ℕ). number_in_cell size at (k + 1) (drop m items)) (sym (add-one k))
 
-pub standing_none : (size at k : ℕ) (items : List Item) → length items ≤ k → standing size at k (drop k items) ≡ 0
-standing_none size at k items le = ap (standing size at k) (drop_all k items le)
+pub cell_none : (size at k : ℕ) (items : List Item) → length items ≤ k → number_in_cell size at k (drop k items) ≡ 0
+cell_none size at k items le = ap (number_in_cell size at k) (drop_all k items le)
 
 pub bits_more : (test : ℕ → Bool) (n : ℕ) → bits test (n + 1) ≡ (if test n then 2 ^ n else 0) + bits test n
 bits_more test n = rw add-one refl

@@ -12,12 +12,12 @@ use Rattle.onvm_core.specs.declared.step.Step.{Step}
 use Rattle.onvm_core.specs.Layouts.{IsFeeder}
 use Rattle.onvm_core.specs.History.{History}
 use Rattle.onvm_core.specs.Lawful.{AllowsAct, IsLawful}
-use Rattle.onvm_core.specs.Records.{recorded}
+use Rattle.onvm_core.specs.Records.{records_of_act}
 use Rattle.onvm_core.specs.Words.{value_of}
-use Rattle.onvm_core.specs.Logs.{Setting, log_of, frame_after}
-use Rattle.onvm_core.specs.Receiving.{IsHeld}
+use Rattle.onvm_core.specs.Logs.{Setting, log_of, entry_after}
+use Rattle.onvm_core.specs.Receiving.{IsThrottleRecord}
 use Rattle.onvm_core.specs.Blocks.{AllOfBlocks}
-use Rattle.onvm_core.specs.Marks.{Marks, Ages, AllMarked, has_bit, last_post, standing}
+use Rattle.onvm_core.specs.Marks.{MarkEvents, Ages, AllMarked, has_bit, last_post, mark_events}
 use Rattle.onvm_core.specs.Earned.{Clears, ClearsAtOnce, IsEarnedThrottle}
 use Rattle.onvm_core.proofs.Earning.{Gives, told_by, not_throttled_empty}
 use Rattle.onvm_core.proofs.Marked.{bit_of_set, cleared, cleared_at_once, marks_paid, posted_is, raised_now}
@@ -25,7 +25,7 @@ use Rattle.onvm_core.proofs.Marked.{bit_of_set, cleared, cleared_at_once, marks_
 -- the frame is the port's, its record is a look's at the feeder's word, and the throttle is earned
 abbrev pub TellsThrottle : Setting → (ℕ → Ages) → Step → History → Record → (feeder post function : ℕ) → Type 0
 TellsThrottle setting aged step before told feeder post function =
-    (e : Entry) × (done : ℕ) × (frame_after setting step.role done ≡ Some e) × (told.frame ≡ e.frame)
+    (e : Entry) × (done : ℕ) × (entry_after setting step.role done ≡ Some e) × (told.frame ≡ e.frame)
     × (step.act ≡ Look (PostWord feeder) (value_of setting.layout before (PostWord feeder)) (Some told))
     × IsEarnedThrottle setting aged before e told feeder post function
 
@@ -36,7 +36,7 @@ throttle_parts k n p m f g e = (cc, cc, cc)
 look_earned : (setting : Setting) (aged : ℕ → Ages) (step : Step) (before : History) (told : Record) (k seen : ℕ)
     (e : Entry)
     → IsLawful setting.layout (step ∷ before) → AllMarked setting aged before
-    → step.act ≡ Look (PostWord k) seen (Some told) → (held : IsHeld setting e k seen told)
+    → step.act ≡ Look (PostWord k) seen (Some told) → (held : IsThrottleRecord setting e k seen told)
     → (step.act ≡ Look (PostWord k) (value_of setting.layout before (PostWord k)) (Some told))
     × IsEarnedThrottle setting aged before e told k (seen / 2 ^ 32) held.function
 look_earned setting aged step before told k seen e lawful marked acts held =
@@ -44,9 +44,9 @@ look_earned setting aged step before told k seen e lawful marked acts held =
     subst (AllowsAct setting.layout before step.role) acts lawful.0.allowed in
     let known : IsFeeder setting.layout k = allowed.known in
     let shows : seen ≡ value_of setting.layout before (PostWord k) = allowed.true_value in
-    let marks : Marks = (standing setting k (log_of k before)).marks in
-    let last : seen ≡ last_post marks = shows ∙ posted_is setting k before known lawful.1 in
-    let bit : has_bit (last_post marks) held.function ≡ true =
+    let events : MarkEvents = mark_events setting k (log_of k before) in
+    let last : seen ≡ last_post events = shows ∙ posted_is setting k before known lawful.1 in
+    let bit : has_bit (last_post events) held.function ≡ true =
     subst (λ (n : ℕ). has_bit n held.function ≡ true) last (bit_of_set seen held.function held.raised.bit) in (
       acts ∙ ap (λ (n : ℕ). Look (PostWord k) n (Some told)) shows,
       record {
@@ -56,7 +56,7 @@ look_earned setting aged step before told k seen e lawful marked acts held =
         held = held;
         names = refl;
         raised =
-            raised_now (aged k) held.function marks
+            raised_now (aged k) held.function events
             (marks_paid setting k (aged k) (log_of k before) (marked k known)) bit;
       },
     )
@@ -75,7 +75,7 @@ named_so setting aged step before told k n p m f g e h =
 pub earned_throttle : (setting : Setting) (aged : ℕ → Ages) (step : Step) (before : History) (told : Record)
     (feeder post : ℕ) (function : FnId)
     → IsLawful setting.layout (step ∷ before) → AllOfBlocks setting (step ∷ before) → AllMarked setting aged before
-    → recorded step.act ≡ told ∷ [] → told.outcome ≡ Throttled feeder post function
+    → records_of_act step.act ≡ told ∷ [] → told.outcome ≡ Throttled feeder post function
     → TellsThrottle setting aged step before told feeder post function.0
 earned_throttle setting aged step before told feeder post function lawful blocks marked e is =
     elim (told_by setting step before told blocks e) [
@@ -99,9 +99,9 @@ earned_throttle setting aged step before told feeder post function lawful blocks
 -- each mark is cleared by the pass that doesn't find low
 pub marks_cleared : (setting : Setting) (aged : ℕ → Ages) (past : History) (feeder f : ℕ)
     → AllMarked setting aged past → IsFeeder setting.layout feeder
-    → Clears f (standing setting feeder (log_of feeder past)).marks
+    → Clears f (mark_events setting feeder (log_of feeder past))
 marks_cleared setting aged past feeder f marked known =
-    cleared (aged feeder) f (standing setting feeder (log_of feeder past)).marks
+    cleared (aged feeder) f (mark_events setting feeder (log_of feeder past))
     (marks_paid setting feeder (aged feeder) (log_of feeder past) (marked feeder known))
 
 pub marks_cleared_at_once : (setting : Setting) (aged : ℕ → Ages) (past : History) (feeder f : ℕ)
@@ -110,8 +110,8 @@ pub marks_cleared_at_once : (setting : Setting) (aged : ℕ → Ages) (past : Hi
 marks_cleared_at_once setting aged past feeder f marked known =
     cleared_at_once setting feeder (aged feeder) f (log_of feeder past) (marked feeder known)
 
--- the word has the last post of the marks
+-- the word has the last post
 pub word_posted : (setting : Setting) (past : History) (feeder : ℕ)
     → IsLawful setting.layout past → IsFeeder setting.layout feeder
-    → value_of setting.layout past (PostWord feeder) ≡ last_post (standing setting feeder (log_of feeder past)).marks
+    → value_of setting.layout past (PostWord feeder) ≡ last_post (mark_events setting feeder (log_of feeder past))
 word_posted setting past feeder lawful known = posted_is setting feeder past known lawful

@@ -1,5 +1,5 @@
 -- The crumbs of each parcel lead from the captured bytes to its own.
-use Rattle.std.proofs.Common.{◌≡◌, ℕ, ◌≤◌, ◌⊎◌, inl, inr, List, [], ◌∷◌, ◌++◌, length, refl, sym, ◌∙◌, ap, subst, arith, Option, Some, None}
+use Rattle.std.proofs.Common.{◌≡◌, ℕ, ◌≤◌, ◌⊎◌, inl, inr, [], ◌∷◌, length, refl, sym, ◌∙◌, ap, subst, arith, Option, Some, None}
 use Rattle.std.specs.Prelude.{slice_get, ◌==◌}
 use Rattle.std.proofs.lemmas.Bool.{cases_Bool, eq-eqb}
 use Rattle.onvm_base.specs.declared.ids.RingId.{RingId}
@@ -7,132 +7,56 @@ use Rattle.onvm_base.specs.declared.ids.BufId.{BufId}
 use Rattle.onvm_base.specs.declared.ids.FnId.{FnId}
 use Rattle.onvm_base.specs.declared.ids.FrameId.{FrameId}
 use Rattle.onvm_core.specs.declared.parcel.Parcel.{Parcel}
-use Rattle.onvm_core.specs.declared.step.Item.TheVariants.{Buffer, Number}
+use Rattle.onvm_core.specs.declared.step.Item.TheVariants.{Buffer}
 use Rattle.onvm_core.specs.declared.step.Act.{Act}
-use Rattle.onvm_core.specs.declared.step.Act.TheVariants.{Split, Join, Take, Give, Push, Full, Pop, Empty, Look, Post}
+use Rattle.onvm_core.specs.declared.step.Act.TheVariants.{Take, Give, Push, Pop}
 use Rattle.onvm_core.specs.declared.step.Step.{Step}
 use Rattle.onvm_core.specs.Layouts.{producer, core_role}
 use Rattle.onvm_core.specs.History.{History, pushed_on, popped_from}
 use Rattle.onvm_core.specs.Lawful.{AllowsAct, IsLawful}
-use Rattle.onvm_core.specs.Logs.{Setting, Log, log_of, Hand, frame_after, entry_parcel, IsHandled, push_count, last_crumb, moved_to}
-use Rattle.onvm_core.specs.Receiving.{ReceivePhase, receive_phase, done_in, MayReceiveFor}
+use Rattle.onvm_core.specs.Logs.{Setting, Log, log_of, Hand, entry_after, push_count, last_crumb, with_cursor}
+use Rattle.onvm_core.specs.Receiving.{ReceivePhase, receive_phase, done_count, MayReceiveFor}
 use Rattle.onvm_core.specs.Handling.{core_hand, MayHandle, crumb_place}
 use Rattle.onvm_core.specs.Sending.{SendPhase, send_phase, MaySend}
-use Rattle.onvm_core.specs.Blocks.{Kind, kind_of, IsOfBlocks, AllOfBlocks}
+use Rattle.onvm_core.specs.Blocks.{RoleKind, kind_of, IsOfBlocks, AllOfBlocks}
 use Rattle.onvm_core.specs.Frames.{Load, load, load_after, block_frame}
-use Rattle.onvm_core.specs.Journals.{Handling, LeadsTo, IsTraced, Names, HasShortJournals, journal, journal_of, handlings, verdict_in, last_popped}
+use Rattle.onvm_core.specs.Journals.{IsTraced, Names, HasShortJournals, journal, journal_of, handlings, verdict_in, last_popped_parcel}
 use Rattle.onvm_base.specs.declared.outcome.Outcome.{Outcome}
 use Rattle.onvm_base.specs.declared.outcome.Outcome.TheVariants.{Sent, Dropped, Throttled, RingFull, PoolEmpty}
 use Rattle.onvm_base.specs.declared.ids.RingId.TheVariants.{Lane, Output, Mail}
 use Rattle.onvm_core.specs.declared.entry.Entry.{Entry}
-use Rattle.onvm_core.specs.Receiving.ReceivePhase.{Between, Asks, Seeks, Sees, Took, Barred}
+use Rattle.onvm_core.specs.Receiving.ReceivePhase.{Took, Barred}
 use Rattle.onvm_core.specs.Sending.SendPhase.{Free, Moves as Sending, TurnsBack}
-use Rattle.onvm_core.specs.Blocks.Kind.{Receives, Sends, Handles, Ticks, Leads}
+use Rattle.onvm_core.specs.Blocks.RoleKind.{Receives, Sends, Handles}
 use Rattle.onvm_core.specs.Frames.Load.{Fresh, Loaded}
 use Rattle.onvm_core.proofs.Loads.{own_load, own_load_is, HasLoad, popped_load, content_loaded}
 use Rattle.onvm_core.proofs.Hands.{is_kind, IsKind}
-use Rattle.onvm_core.specs.declared.parcel.Crumb.{Crumb}
 use Rattle.std.proofs.Common.{length-append}
 use Rattle.std.specs.Prelude.{min}
 use Rattle.std.proofs.lemmas.Option.{slice_get_within}
 use Rattle.onvm_core.proofs.Hands.{HasHand, HasSend, core_has, send_has}
 use Rattle.onvm_core.proofs.Balance.{own_blocks, blocks_before}
-use Rattle.onvm_core.proofs.Lists.{get_front, get_last, last_of_push}
 use Rattle.onvm_core.proofs.Counted.{popped_in_hand, journal_length}
-
--- Trails
-
-leads_more : (few many : FnId → List Handling) (frame : FrameId) (input : List ℕ) (trail : List Crumb) (output : List ℕ)
-    → ((f : FnId) (k : ℕ) (h : Handling) → slice_get (few f) k ≡ Some h → slice_get (many f) k ≡ Some h)
-    → LeadsTo few frame input trail output
-    → LeadsTo many frame input trail output
-leads_more few many frame input [] output grows leads = leads
-leads_more few many frame input (crumb ∷ crumbs) output grows leads = (
-  leads.0,
-  grows crumb.function crumb.place leads.0 leads.1,
-  leads.2,
-  leads.3,
-  leads.4,
-  leads_more few many frame leads.0.bytes crumbs output grows leads.5,
-)
-
-leads_on : (journals : FnId → List Handling) (frame : FrameId) (input : List ℕ) (trail : List Crumb)
-    (middle output : List ℕ) (crumb : Crumb) (h : Handling)
-    → LeadsTo journals frame input trail middle → slice_get (journals crumb.function) crumb.place ≡ Some h
-    → h.before.frame ≡ frame → h.verdict ≡ crumb.verdict → h.before.packet ≡ middle → output ≡ h.bytes
-    → LeadsTo journals frame input (trail ++ crumb ∷ []) output
-leads_on journals frame input [] middle output crumb h leads found of verdict bytes last =
-    (h, found, of, verdict, bytes ∙ leads, last)
-leads_on journals frame input (c ∷ cs) middle output crumb h leads found of verdict bytes last = (
-  leads.0,
-  leads.1,
-  leads.2,
-  leads.3,
-  leads.4,
-  leads_on journals frame leads.0.bytes cs middle output crumb h leads.5 found of verdict bytes last,
-)
-
--- journals only grow
-journal_grows : (setting : Setting) (step : Step) (before : History) (f : FnId) (k : ℕ) (h : Handling)
-    → slice_get (journal_of setting before f) k ≡ Some h
-    → slice_get (journal_of setting (step ∷ before) f) k ≡ Some h
-journal_grows setting step before f k h e =
-    elim (cases_Bool (step.role == core_role setting.layout f.0)) [
-      | inl met ↦
-          rw met (get_front (journal_of setting before f)
-          (handlings f step.act (log_of (core_role setting.layout f.0) before)) k h e)
-      | inr unmet ↦ rw unmet e
-    ]
-
-traced_on : (setting : Setting) (step : Step) (before : History) (parcel : Parcel) → IsTraced setting before parcel
-    → IsTraced setting (step ∷ before) parcel
-traced_on setting step before parcel traced = record {
-  entry = traced.entry;
-  port = traced.port;
-  done = traced.done;
-  captured = traced.captured;
-  frame = traced.frame;
-  leads =
-      leads_more (journal_of setting before)
-      (journal_of setting (step ∷ before)) parcel.frame traced.entry.packet parcel.trail parcel.packet
-      (journal_grows setting step before) traced.leads;
-}
+use Rattle.onvm_core.proofs.Trails.{Enters, Handled, entered_traced, entry_added, handled_traced, log_on, moved_traced, traced_on}
 
 -- Where a pushed parcel comes from
-
-abbrev Enters : Setting → Parcel → Type 0
-Enters setting parcel =
-    (e : Entry) × (port : ℕ) × (done : ℕ) × (frame_after setting port done ≡ Some e) × (parcel ≡ entry_parcel e)
-
-record Handled (own : Option (ℕ × Load)) (log : Log) (ring : RingId) (b : BufId) (parcel : Parcel) : Type 0 where
-  function : FnId
-  hand : Hand
-  ring_is : ring ≡ Output function
-  held_is : core_hand log ≡ Some hand
-  same : hand.buf ≡ b.0
-  owns : own ≡ Some (b.0, Loaded hand.parcel)
-  handled : IsHandled function (crumb_place function log) hand.parcel parcel
 
 abbrev Moved : Option (ℕ × Load) → BufId → Parcel → Type 0
 Moved own b parcel =
     (was : Parcel) × (own ≡ Some (b.0, Loaded was)) × (parcel.frame ≡ was.frame) × (parcel.trail ≡ was.trail)
     × (parcel.packet ≡ was.packet)
 
-abbrev ComesFrom : Setting → Kind → Option (ℕ × Load) → Log → RingId → BufId → Parcel → Type 0
+abbrev ComesFrom : Setting → RoleKind → Option (ℕ × Load) → Log → RingId → BufId → Parcel → Type 0
 ComesFrom setting kind own log ring b parcel =
     Enters setting parcel ⊎ (((kind ≡ Handles) × Handled own log ring b parcel) ⊎ Moved own b parcel)
 
 comes_receive : (setting : Setting) (port : ℕ) (e : Entry) (phase : ReceivePhase) (ring : RingId) (b : BufId)
     (parcel : Parcel)
-    → frame_after setting port (done_in phase) ≡ Some e
+    → entry_after setting port (done_count phase) ≡ Some e
     → MayReceiveFor setting port e phase (Push ring (Buffer b parcel))
     → Enters setting parcel
 comes_receive setting port e (Took done buf) ring b parcel found may = (e, port, done, found, may.1)
-comes_receive setting port e (Between done) ring b parcel found may = absurd may
-comes_receive setting port e (Asks done k) ring b parcel found may = absurd may
-comes_receive setting port e (Seeks done k) ring b parcel found may = absurd may
-comes_receive setting port e (Sees done index seen) ring b parcel found may = absurd may
-comes_receive setting port e (Barred done buf r) ring b parcel found may = absurd may
+comes_receive setting port e phase ring b parcel found may = absurd may
 
 comes_core : (setting : Setting) (role : ℕ) (log : Log) (own : Option (ℕ × Load)) (ring : RingId) (b : BufId)
     (parcel : Parcel) → HasHand own (core_hand log) → MayHandle setting role log (Push ring (Buffer b parcel))
@@ -163,7 +87,7 @@ comes_send setting feeder (Sending hand) own ring b parcel h may = (
 )
 comes_send setting feeder (TurnsBack hand r) own ring b parcel h may = absurd may
 
-comes_from : (setting : Setting) (role : ℕ) (kind : Kind) (log : Log) (ring : RingId) (b : BufId) (parcel : Parcel)
+comes_from : (setting : Setting) (role : ℕ) (kind : RoleKind) (log : Log) (ring : RingId) (b : BufId) (parcel : Parcel)
     → IsKind setting role kind (Push ring (Buffer b parcel) ∷ log)
     → ComesFrom setting kind (own_load setting role log) log ring b parcel
 comes_from setting role Receives log ring b parcel h =
@@ -179,101 +103,13 @@ comes_from setting role Handles log ring b parcel h =
       refl,
       comes_core setting role log (own_load setting role log) ring b parcel (core_has setting role log h.1) h.0,
     ))
-comes_from setting role Ticks log ring b parcel h = absurd h.0
-comes_from setting role Leads log ring b parcel h = absurd h.0
-
-log_on : (role : ℕ) (step : Step) (before : History) (act : Act) → step.act ≡ act → step.role ≡ role
-    → log_of role (step ∷ before) ≡ act ∷ log_of step.role before
-log_on role step before act acts same =
-    rw (eq-eqb step.role role same, acts) (ap (λ (n : ℕ). act ∷ log_of n before) (sym same))
-
--- a trail with one more crumb, whose entry the journal has
-extended : (setting : Setting) (past : History) (was parcel : Parcel) (crumb : Crumb) (h : Handling)
-    → IsTraced setting past was → slice_get (journal_of setting past crumb.function) crumb.place ≡ Some h
-    → h.before ≡ was → h.verdict ≡ crumb.verdict → parcel.packet ≡ h.bytes → parcel.frame ≡ was.frame
-    → parcel.trail ≡ was.trail ++ crumb ∷ []
-    → IsTraced setting past parcel
-extended setting past was parcel crumb h traced found of verdict bytes frame trail = record {
-  entry = traced.entry;
-  port = traced.port;
-  done = traced.done;
-  captured = traced.captured;
-  frame = traced.frame ∙ sym frame;
-  leads =
-      rw (trail, frame) (leads_on
-      (journal_of setting past) was.frame traced.entry.packet was.trail was.packet parcel.packet crumb h traced.leads
-      found
-      (ap (λ (p : Parcel). p.frame) of) verdict (ap (λ (p : Parcel). p.packet) of) bytes);
-}
-
--- the entry that a push on an output ring adds to the journal
-entry_added : (f : FnId) (log : Log) (b : BufId) (parcel was : Parcel) (n : ℕ)
-    → last_popped b.0 log ≡ Some was → length (journal f log) ≡ n
-    → slice_get (journal f (Push (Output f) (Buffer b parcel) ∷ log)) n
-    ≡ Some (record { before = was; verdict = verdict_in (last_crumb parcel.trail); bytes = parcel.packet })
-entry_added f log b parcel was n has long =
-    let h : Handling = record { before = was; verdict = verdict_in (last_crumb parcel.trail); bytes = parcel.packet } in
-    let added : handlings f (Push (Output f) (Buffer b parcel)) log ≡ h ∷ [] = rw (eq-eqb f.0 f.0 refl, has) refl in
-    subst (λ (k : ℕ). slice_get (journal f log ++ handlings f (Push (Output f) (Buffer b parcel)) log) k ≡ Some h) long
-    (subst (λ (hs : List Handling). slice_get (journal f log ++ hs) (length (journal f log)) ≡ Some h) (sym added)
-    (get_last (journal f log) h))
-
--- the verdict of the last crumb
-verdict_added : (trail before : List Crumb) (crumb : Crumb) → trail ≡ before ++ crumb ∷ []
-    → verdict_in (last_crumb trail) ≡ crumb.verdict
-verdict_added trail before crumb e =
-    ap (λ (t : List Crumb). verdict_in (last_crumb t)) e ∙ ap verdict_in (last_of_push before crumb)
-
--- the parcel that a function pushed is traced where the popped one was
-handled_traced : (setting : Setting) (step : Step) (before : History) (f : FnId) (hand : Hand) (b : BufId)
-    (parcel : Parcel) (n : ℕ)
-    → step.act ≡ Push (Output f) (Buffer b parcel) → step.role ≡ core_role setting.layout f.0
-    → last_popped b.0 (log_of step.role before) ≡ Some hand.parcel → length (journal f (log_of step.role before)) ≡ n
-    → IsHandled f n hand.parcel parcel → IsTraced setting before hand.parcel
-    → IsTraced setting (step ∷ before) parcel
-handled_traced setting step before f hand b parcel n acts role has long handled traced =
-    extended setting (step ∷ before) hand.parcel parcel
-    (record { function = f; place = n; verdict = handled.verdict })
-    (record { before = hand.parcel; verdict = verdict_in (last_crumb parcel.trail); bytes = parcel.packet })
-    (traced_on setting step before hand.parcel traced)
-    (subst (λ (l : Log). slice_get (journal f l) n
-    ≡ Some (record { before = hand.parcel; verdict = verdict_in (last_crumb parcel.trail); bytes = parcel.packet }))
-    (sym (log_on (core_role setting.layout f.0) step before (Push (Output f) (Buffer b parcel)) acts role))
-    (entry_added f (log_of step.role before) b parcel hand.parcel n has long))
-    refl
-    (verdict_added parcel.trail hand.parcel.trail (record { function = f; place = n; verdict = handled.verdict })
-    (ap (λ (p : Parcel). p.trail) handled.same))
-    refl
-    (ap (λ (p : Parcel). p.frame) handled.same)
-    (ap (λ (p : Parcel). p.trail) handled.same)
-
-moved_traced : (setting : Setting) (past : History) (was parcel : Parcel)
-    → parcel.frame ≡ was.frame → parcel.trail ≡ was.trail → parcel.packet ≡ was.packet → IsTraced setting past was
-    → IsTraced setting past parcel
-moved_traced setting past was parcel frame trail packet traced = record {
-  entry = traced.entry;
-  port = traced.port;
-  done = traced.done;
-  captured = traced.captured;
-  frame = traced.frame ∙ sym frame;
-  leads = rw (frame, trail, packet) traced.leads;
-}
-
-entered_traced : (setting : Setting) (past : History) (parcel : Parcel) → Enters setting parcel
-    → IsTraced setting past parcel
-entered_traced setting past parcel enters = record {
-  entry = enters.0;
-  port = enters.1;
-  done = enters.2;
-  captured = enters.3;
-  frame = sym (ap (λ (p : Parcel). p.frame) enters.4);
-  leads = rw enters.4 refl;
-}
+comes_from setting role kind log ring b parcel h = absurd h.0
 
 -- the place of an entry that a short journal gets fits a crumb
 entry_fits : (setting : Setting) (step : Step) (before : History) (f : FnId) (b : BufId) (parcel was : Parcel)
     → step.act ≡ Push (Output f) (Buffer b parcel) → step.role ≡ core_role setting.layout f.0
-    → last_popped b.0 (log_of step.role before) ≡ Some was → length (journal_of setting (step ∷ before) f) ≤ 4294967296
+    → last_popped_parcel b.0 (log_of step.role before) ≡ Some was
+    → length (journal_of setting (step ∷ before) f) ≤ 4294967296
     → length (journal f (log_of step.role before)) ≡ push_count (Output f) (log_of step.role before)
     → push_count (Output f) (log_of step.role before) ≤ 4294967295
 entry_fits setting step before f b parcel was acts role has few long =
@@ -320,7 +156,7 @@ pushed_traced : (setting : Setting) (step : Step) (before : History) (ring : Rin
     → ((buf : ℕ) (p : Parcel) → load setting buf before ≡ Some (Loaded p) → IsTraced setting before p)
     → IsTraced setting (step ∷ before) parcel
 pushed_traced setting step before ring b parcel acts lawful blocks few all =
-    let kind : Kind = kind_of setting.layout step.role in
+    let kind : RoleKind = kind_of setting.layout step.role in
     let log : Log = log_of step.role before in
     let kinds : IsKind setting step.role kind (Push ring (Buffer b parcel) ∷ log) =
     is_kind setting step.role (Push ring (Buffer b parcel) ∷ log) kind refl blocks in
@@ -336,7 +172,7 @@ pushed_traced setting step before ring b parcel acts lawful blocks few all =
           let core_kind : IsKind setting step.role Handles log = is_kind setting step.role log Handles core blocks.1 in
           let pushes_so : step.act ≡ Push (Output made.function) (Buffer b parcel) =
           acts ∙ ap (λ (r : RingId). Push r (Buffer b parcel)) made.ring_is in
-          let was : last_popped b.0 log ≡ Some made.hand.parcel =
+          let was : last_popped_parcel b.0 log ≡ Some made.hand.parcel =
           popped_in_hand setting step.role log b.0 made.hand core_kind made.held_is made.same in
           let long : length (journal made.function log) ≡ push_count (Output made.function) log =
           journal_length made.function setting step.role log core_kind in
@@ -377,7 +213,6 @@ loaded_by buf fresh (Push r (Buffer b p)) was parcel e =
           let same : p ≡ parcel = cc in inr (inl (r, b, ap (λ (q : Parcel). Push r (Buffer b q)) same))
       | inr miss ↦ inl (rw miss at e)
     ]
-loaded_by buf fresh (Push r (Number n)) was parcel e = inl e
 loaded_by buf fresh (Pop r (Buffer b p)) was parcel e =
     elim (cases_Bool (b.0 == buf)) [
       | inl hit ↦
@@ -385,13 +220,7 @@ loaded_by buf fresh (Pop r (Buffer b p)) was parcel e =
           let same : p ≡ parcel = cc in inr (inr (r, b, ap (λ (q : Parcel). Pop r (Buffer b q)) same))
       | inr miss ↦ inl (rw miss at e)
     ]
-loaded_by buf fresh (Pop r (Number n)) was parcel e = inl e
-loaded_by buf fresh (Split a) was parcel e = inl e
-loaded_by buf fresh (Join a) was parcel e = inl e
-loaded_by buf fresh (Full a) was parcel e = inl e
-loaded_by buf fresh (Empty a) was parcel e = inl e
-loaded_by buf fresh (Look a b c) was parcel e = inl e
-loaded_by buf fresh (Post a b) was parcel e = inl e
+loaded_by buf fresh act was parcel e = inl e
 
 -- each parcel in a buffer is traced
 pub loads_traced : (setting : Setting) (past : History)
@@ -418,7 +247,7 @@ loads_traced setting (step ∷ before) lawful blocks few buf parcel e =
 -- what a role gives is an entering parcel, or what it had, perhaps moved
 given_receive : (setting : Setting) (port : ℕ) (e : Entry) (phase : ReceivePhase) (b : BufId) (outcome : Outcome)
     (parcel : Parcel)
-    → frame_after setting port (done_in phase) ≡ Some e → MayReceiveFor setting port e phase (Give b outcome parcel)
+    → entry_after setting port (done_count phase) ≡ Some e → MayReceiveFor setting port e phase (Give b outcome parcel)
     → Enters setting parcel
 given_receive setting port e (Took done buf) b (Sent q) parcel found may = (e, port, done, found, may.1)
 given_receive setting port e (Took done buf) b (Dropped f why) parcel found may = absurd may
@@ -426,10 +255,7 @@ given_receive setting port e (Took done buf) b (Throttled x y z) parcel found ma
 given_receive setting port e (Took done buf) b (RingFull r) parcel found may = absurd may
 given_receive setting port e (Took done buf) b PoolEmpty parcel found may = absurd may
 given_receive setting port e (Barred done buf r) b outcome parcel found may = (e, port, done, found, may.2)
-given_receive setting port e (Between done) b outcome parcel found may = absurd may
-given_receive setting port e (Asks done k) b outcome parcel found may = absurd may
-given_receive setting port e (Seeks done k) b outcome parcel found may = absurd may
-given_receive setting port e (Sees done index seen) b outcome parcel found may = absurd may
+given_receive setting port e phase b outcome parcel found may = absurd may
 
 was_moved : (own : Option (ℕ × Load)) (hand : Hand) (b : BufId) (parcel after : Parcel)
     → own ≡ Some (hand.buf, Loaded hand.parcel) → b.0 ≡ hand.buf → parcel ≡ after → after.frame ≡ hand.parcel.frame
@@ -446,18 +272,16 @@ was_moved own hand b parcel after h same is frame trail packet = (
 given_send : (setting : Setting) (feeder : ℕ) (phase : SendPhase) (own : Option (ℕ × Load)) (b : BufId)
     (outcome : Outcome) (parcel : Parcel) → HasSend own phase → MaySend setting feeder phase (Give b outcome parcel)
     → Moved own b parcel
-given_send setting feeder Free own b outcome parcel h may = absurd may
 given_send setting feeder (Sending hand) own b (Sent q) parcel h may =
     was_moved own hand b parcel hand.parcel h may.0 may.2 refl refl refl
 given_send setting feeder (Sending hand) own b (Dropped f why) parcel h may =
     was_moved own hand b parcel hand.parcel h may.0 may.3 refl refl refl
-given_send setting feeder (Sending hand) own b (Throttled x y z) parcel h may = absurd may
-given_send setting feeder (Sending hand) own b (RingFull r) parcel h may = absurd may
-given_send setting feeder (Sending hand) own b PoolEmpty parcel h may = absurd may
 given_send setting feeder (TurnsBack hand r) own b outcome parcel h may =
-    was_moved own hand b parcel (moved_to may.2.0 hand.parcel) h may.0 may.2.2 refl refl refl
+    was_moved own hand b parcel (with_cursor may.2.0 hand.parcel) h may.0 may.2.2 refl refl refl
+given_send setting feeder phase own b outcome parcel h may = absurd may
 
-given_from : (setting : Setting) (role : ℕ) (kind : Kind) (log : Log) (b : BufId) (outcome : Outcome) (parcel : Parcel)
+given_from : (setting : Setting) (role : ℕ) (kind : RoleKind) (log : Log) (b : BufId) (outcome : Outcome)
+    (parcel : Parcel)
     → IsKind setting role kind (Give b outcome parcel ∷ log)
     → Enters setting parcel ⊎ Moved (own_load setting role log) b parcel
 given_from setting role Receives log b outcome parcel h =
@@ -469,9 +293,7 @@ given_from setting role Receives log b outcome parcel h =
 given_from setting role Sends log b outcome parcel h =
     inr (given_send setting role (send_phase log) (own_load setting role log) b outcome parcel
     (send_has setting role log h.1) h.0)
-given_from setting role Handles log b outcome parcel h = absurd h.0
-given_from setting role Ticks log b outcome parcel h = absurd h.0
-given_from setting role Leads log b outcome parcel h = absurd h.0
+given_from setting role kind log b outcome parcel h = absurd h.0
 
 given_traced : (setting : Setting) (step : Step) (before : History) (b : BufId) (outcome : Outcome) (parcel : Parcel)
     → step.act ≡ Give b outcome parcel → IsLawful setting.layout before
@@ -507,15 +329,7 @@ named_traced setting step before (Give b outcome p) parcel acts lawful blocks fe
     (own_blocks setting step before blocks))
     (loads_traced setting before lawful.1 (blocks_before setting step before blocks)
     (short_before setting step before few)))
-named_traced setting step before (Push r (Number n)) parcel acts lawful blocks few names = absurd names
-named_traced setting step before (Pop r (Number n)) parcel acts lawful blocks few names = absurd names
-named_traced setting step before (Take a) parcel acts lawful blocks few names = absurd names
-named_traced setting step before (Split a) parcel acts lawful blocks few names = absurd names
-named_traced setting step before (Join a) parcel acts lawful blocks few names = absurd names
-named_traced setting step before (Full a) parcel acts lawful blocks few names = absurd names
-named_traced setting step before (Empty a) parcel acts lawful blocks few names = absurd names
-named_traced setting step before (Look a b c) parcel acts lawful blocks few names = absurd names
-named_traced setting step before (Post a b) parcel acts lawful blocks few names = absurd names
+named_traced setting step before act parcel acts lawful blocks few names = absurd names
 
 -- each parcel that is pushed, popped or given is traced
 pub each_traced : (setting : Setting) (step : Step) (before : History) (parcel : Parcel)

@@ -11,14 +11,13 @@ use Rattle.onvm_base.specs.declared.outcome.Verdict.TheVariants.{Next}
 use Rattle.onvm_core.specs.declared.layout.Layout.{Layout}
 use Rattle.onvm_core.specs.declared.layout.Word.TheVariants.{Pool as PoolWord, Cell, Post as PostWord, Weight}
 use Rattle.onvm_core.specs.declared.parcel.Parcel.{Parcel}
-use Rattle.onvm_core.specs.declared.step.Act.{Act}
 use Rattle.onvm_core.specs.declared.step.Act.TheVariants.{Split, Join, Take, Give, Push, Pop, Look}
 use Rattle.onvm_core.specs.declared.step.Item.TheVariants.{Buffer}
-use Rattle.onvm_core.specs.declared.step.Step.{Step}
 use Rattle.onvm_core.specs.declared.place.Place.TheVariants.{Pool, Role}
 use Rattle.onvm_core.specs.History.{History, place_of}
 use Rattle.onvm_core.specs.Words.{pool_bits}
 use Rattle.onvm_core.specs.Lawful.{IsLawful}
+use Rattle.onvm_core.proofs.Steps.{◌◂◌, by, splits, joins, takes, gives, enters, leaves, pops, looks}
 
 -- a port, a transmit role, a core, a function; 1024 buffers, rings of 128
 abbrev pub layout : Layout
@@ -55,9 +54,6 @@ entered = record {
 abbrev pub handled : Parcel
 handled = record entered { trail = record { function = f; place = 0; verdict = Next } ∷ [] }
 
-abbrev pub by : ℕ → Act → Step
-by role act = record { role = role; act = act }
-
 -- the receive role is 0, the transmit role 1, the core 2, that of the first token 4
 abbrev pub split_all : History
 split_all = by 4 (Split 2) ∷ by 4 (Split 1) ∷ by 4 (Split 0) ∷ []
@@ -86,92 +82,32 @@ transmitted = by 1 (Give buf (Sent 0) handled) ∷ by 1 (Pop (Output f) (Buffer 
 abbrev pub walk : History
 walk = by 4 (Join 2) ∷ by 4 (Join 1) ∷ by 4 (Join 0) ∷ transmitted
 
-split_is : IsLawful layout split_all
-split_is = (
-  record { live = refl; allowed = record { first = refl; below = omega arith; not_live = refl } },
-  (
-    record { live = refl; allowed = record { first = refl; below = omega arith; not_live = refl } },
-    (
-      record { live = refl; allowed = record { first = refl; below = omega arith; not_live = refl } },
-      tt,
-    ),
-  ),
-)
-
-abbrev pub asked : History
-asked = by 0 (Look (PostWord 1) 0 None) ∷ by 0 (Look (PostWord 0) 0 None) ∷ split_all
-
--- all 64 buffers of the part's first word are in the pool
-whole_pool : 18446744073709551615 ≡ pool_bits layout asked 0 0
-unfolding pool_bits
-whole_pool = refl
-
-looked_is : IsLawful layout looked
-looked_is = (
-  record { live = refl; allowed = record { known = (omega arith, omega arith); true_value = whole_pool; names = tt } },
-  (
-    record { live = refl; allowed = record { known = omega arith; true_value = refl; names = tt } },
-    (
-      record { live = refl; allowed = record { known = omega arith; true_value = refl; names = tt } },
-      split_is,
-    ),
-  ),
-)
-
 pub first_bit : IsBitSet 18446744073709551615 0
 first_bit h = let off : 1 ≡ 0 = h in absurd (omega (arith, off))
 
-received_is : IsLawful layout received
-received_is = (
-  record {
-    live = refl;
-    allowed = record {
-      known = (omega arith, omega arith);
-      own_end = refl;
-      room = omega arith;
-      suits = (record { known = omega arith; holder = refl }, omega arith);
-    };
-  },
-  (
-    record {
-      live = refl;
-      allowed = record { known = omega arith; in_pool = refl; own_port = refl; shown = (refl, first_bit) };
-    },
-    looked_is,
-  ),
-)
-
-served_is : IsLawful layout served
-served_is = (
-  record {
-    live = refl;
-    allowed = record {
-      known = omega arith;
-      own_end = refl;
-      room = omega arith;
-      suits = (record { known = omega arith; holder = refl }, omega arith, omega arith);
-    };
-  },
-  (
-    record { live = refl; allowed = record { known = (omega arith, omega arith); own_end = refl; first = refl } },
-    (
-      record { live = refl; allowed = record { known = (omega arith, omega arith); true_value = refl; names = tt } },
-      (
-        record { live = refl; allowed = record { known = omega arith; true_value = refl; names = tt } },
-        received_is,
-      ),
-    ),
-  ),
-)
-
+-- all 64 buffers of the part's first word are in the pool
 transmitted_is : IsLawful layout transmitted
-transmitted_is = (
-  record { live = refl; allowed = record { holds = record { known = omega arith; holder = refl }; names = tt } },
-  (
-    record { live = refl; allowed = record { known = omega arith; own_end = refl; first = refl } },
-    served_is,
-  ),
-)
+unfolding pool_bits
+transmitted_is =
+    -- the transmit role sends it
+    gives refl (omega arith) refl tt
+    ◂ pops refl (omega arith) refl refl
+    -- the core handles it
+    ◂ leaves refl (omega arith) refl (omega arith) (omega arith) refl (omega arith, omega arith)
+    ◂ pops refl (omega arith, omega arith) refl refl
+    ◂ looks refl (omega arith, omega arith) refl tt
+    ◂ looks refl (omega arith) refl tt
+    -- the receive role asks the feeders, and takes the buffer of the lowest bit
+    ◂ enters refl (omega arith, omega arith) refl (omega arith) (omega arith) refl (omega arith)
+    ◂ takes refl (omega arith) refl refl (refl, first_bit)
+    ◂ looks refl (omega arith, omega arith) refl tt
+    ◂ looks refl (omega arith) refl tt
+    ◂ looks refl (omega arith) refl tt
+    -- the first token gives the roles away
+    ◂ splits refl refl (omega arith) refl
+    ◂ splits refl refl (omega arith) refl
+    ◂ splits refl refl (omega arith) refl
+    ◂ tt
 
 -- every buffer is in the pool again
 all_back : (b : ℕ) → place_of b transmitted ≡ Pool
@@ -181,29 +117,9 @@ not_held : (role b : ℕ) → place_of b transmitted ≢ Role role
 not_held role b held = let gone : Pool ≡ Role role = sym (all_back b) ∙ held in cc
 
 pub walk_is_lawful : IsLawful layout walk
-walk_is_lawful = (
-  record {
-    live = refl;
-    allowed =
-        record { first = refl; another = λ e. omega (arith, e); live = refl; empty_handed = λ b known. not_held 2 b };
-  },
-  (
-    record {
-      live = refl;
-      allowed =
-          record { first = refl; another = λ e. omega (arith, e); live = refl; empty_handed = λ b known. not_held 1 b };
-    },
-    (
-      record {
-        live = refl;
-        allowed = record {
-          first = refl;
-          another = λ e. omega (arith, e);
-          live = refl;
-          empty_handed = λ b known. not_held 0 b;
-        };
-      },
-      transmitted_is,
-    ),
-  ),
-)
+walk_is_lawful =
+    -- the first token takes the roles back
+    joins refl refl (λ e. omega (arith, e)) refl (λ b known. not_held 2 b)
+    ◂ joins refl refl (λ e. omega (arith, e)) refl (λ b known. not_held 1 b)
+    ◂ joins refl refl (λ e. omega (arith, e)) refl (λ b known. not_held 0 b)
+    ◂ transmitted_is

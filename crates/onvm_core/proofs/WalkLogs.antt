@@ -11,6 +11,7 @@ use Rattle.onvm_core.specs.Logs.{Setting, log_of}
 use Rattle.onvm_core.specs.Handling.SawRoom.{ByLook}
 use Rattle.onvm_core.specs.Blocks.{AllOfBlocks, IsOfBlocks}
 use Rattle.onvm_core.proofs.Plans.{smallest}
+use Rattle.onvm_core.proofs.Steps.{◌◂◌}
 use Rattle.onvm_core.proofs.Walk.{layout, entered, f, first_bit, walk}
 use Rattle.onvm_core.specs.History.{History}
 
@@ -31,66 +32,53 @@ pub no_bit : (k : ℕ) → ¬ IsBitSet 0 k
 no_bit k h = h (and_zero_l (2 ^ k))
 
 receive_is : IsOfBlocks setting 0 (log_of 0 walk)
-receive_is = (
-  inr (entry, refl, (refl, refl, record { function = f; cursor = 0; move = refl; lane = refl })),
-  (
-    inr (
+receive_is =
+    -- it enters by the lane to function f
+    inr (entry, refl, (refl, refl, record { function = f; cursor = 0; move = refl; lane = refl }))
+    -- the buffer of the lowest bit
+    ◂ inr (
       entry,
       refl,
       record { known = omega arith; word = refl; shown = first_bit; lowest = λ k less. absurd (omega (arith, less)) },
-    ),
-    (
-      inr (entry, refl, (refl, λ none. absurd (omega (arith, none)))),
-      (
-        inr (entry, refl, (refl, λ k raised. no_bit k raised.bit)),
-        (
-          inr (entry, refl, (refl, λ k raised. no_bit k raised.bit)),
-          tt,
-        ),
-      ),
-    ),
-  ),
-)
+    )
+    ◂ inr (entry, refl, (refl, λ none. absurd (omega (arith, none))))
+    -- no feeder's post has a bit
+    ◂ inr (entry, refl, (refl, λ k raised. no_bit k raised.bit))
+    ◂ inr (entry, refl, (refl, λ k raised. no_bit k raised.bit))
+    ◂ tt
 
 core_is : IsOfBlocks setting 2 (log_of 2 walk)
-core_is = (
-  record {
-    own = record { known = omega arith; core = refl };
-    hand = record { function = f; buf = 0; parcel = entered };
-    held = refl;
-    function = refl;
-    same = refl;
-    handled = record { verdict = Next; same = refl };
-  },
-  (
+core_is =
+    -- it pushes the parcel that it has in hand, handled
     record {
+      own = record { known = omega arith; core = refl };
+      hand = record { function = f; buf = 0; parcel = entered };
+      held = refl;
+      function = refl;
+      same = refl;
+      handled = record { verdict = Next; same = refl };
+    }
+    -- it saw room, and has a budget
+    ◂ record {
       own = record { known = omega arith; core = refl };
       known = omega arith;
       free = refl;
       room = ByLook (Look (Weight f) 0 None ∷ []);
       left = omega arith;
-    },
-    (
-      ((record { known = omega arith; core = refl }, omega arith), refl),
-      (
-        (record { known = omega arith; core = refl }, refl),
-        tt,
-      ),
-    ),
-  ),
-)
+    }
+    ◂ ((record { known = omega arith; core = refl }, omega arith), refl)
+    ◂ (record { known = omega arith; core = refl }, refl)
+    ◂ tt
 
 send_is : IsOfBlocks setting 1 (log_of 1 walk)
-send_is = (
-  (refl, record { crumb = record { function = f; place = 0; verdict = Next }; last = refl; moved = refl }, refl),
-  (
-    record { known = omega arith; consumes = refl },
-    tt,
-  ),
-)
+send_is =
+    -- the verdict Next of the last crumb leads out of the port
+    (refl, record { crumb = record { function = f; place = 0; verdict = Next }; last = refl; moved = refl }, refl)
+    ◂ record { known = omega arith; consumes = refl }
+    ◂ tt
 
 lead_is : IsOfBlocks setting 4 (log_of 4 walk)
-lead_is = (tt, (tt, (tt, (tt, (tt, (tt, tt))))))
+lead_is = tt ◂ tt ◂ tt ◂ tt ◂ tt ◂ tt ◂ tt
 
 -- what holds of one role's log holds of a role of the same number
 pub at_role : (setting : Setting) (past : History) (n role : ℕ)

@@ -26,14 +26,14 @@ MayLead (Join role) = Unit {0}
 MayLead (Look word seen told) = told ≡ None
 MayLead _ = ⊥
 
-pub data Kind : Type 0 where
-  Receives : Kind
-  Sends : Kind
-  Handles : Kind
-  Ticks : Kind
-  Leads : Kind
+pub data RoleKind : Type 0 where
+  Receives : RoleKind
+  Sends : RoleKind
+  Handles : RoleKind
+  Ticks : RoleKind
+  Leads : RoleKind
 
-abbrev pub kind_of : Layout → ℕ → Kind
+abbrev pub kind_of : Layout → ℕ → RoleKind
 kind_of layout role =
     if nat_lt role layout.ports then Receives
     else if nat_lt role (layout.ports + layout.transmit) then Sends
@@ -41,7 +41,7 @@ kind_of layout role =
     else if role == layout.ports + layout.transmit + layout.cores then Ticks else Leads
 
 -- the act may follow in the log of a role of this kind
-abbrev pub MayFollow : Setting → ℕ → Kind → Log → Act → Type 0
+abbrev pub MayFollow : Setting → ℕ → RoleKind → Log → Act → Type 0
 MayFollow setting role Receives before act = MayReceive setting role before act
 MayFollow setting role Sends before act = MaySend setting role (send_phase before) act
 MayFollow setting role Handles before act = MayHandle setting role before act

@@ -1,5 +1,6 @@
 -- What each record tells, and that it is true: throttles and overflows are earned, drops and sends are the move's.
-use Rattle.std.specs.Prelude.{ℕ, zero, suc, ◌≡◌, ◌≢◌, ◌+◌, ◌*◌, ◌/◌, ◌^◌, ◌≤◌, ◌⊎◌, true, false, [], ◌∷◌, Some, None}
+use Rattle.std.specs.Prelude.{ℕ, zero, suc, ◌≡◌, ◌+◌, ◌*◌, ◌/◌, ◌^◌, ◌≤◌, ◌⊎◌, true, false, [], ◌∷◌, Some, None}
+use Rattle.onvm_base.specs.declared.limits.TheConstants.{WORD_BITS}
 use Rattle.onvm_base.specs.declared.ids.FnId.{FnId}
 use Rattle.onvm_base.specs.declared.ids.RingId.{RingId}
 use Rattle.onvm_base.specs.declared.ids.RingId.TheVariants.{Lane}
@@ -18,32 +19,32 @@ use Rattle.onvm_core.specs.declared.step.Act.TheVariants.{Give, Full, Look, Post
 use Rattle.onvm_core.specs.History.{History}
 use Rattle.onvm_core.specs.Words.{value_of}
 use Rattle.onvm_core.specs.Logs.{Setting, Log, log_of, last_crumb}
-use Rattle.onvm_core.specs.Receiving.{IsHeld}
+use Rattle.onvm_core.specs.Receiving.{IsThrottleRecord}
 use Rattle.onvm_core.specs.Sending.{IsNext}
-use Rattle.onvm_core.specs.Marks.{Marks, Pass, Ages, IsPaid, finds, has_bit, last_post, standing}
-use Rattle.onvm_core.specs.Marks.Mark.{Passed, Posted}
+use Rattle.onvm_core.specs.Marks.{MarkEvent, MarkEvents, Pass, Ages, IsPaid, IsResting, finds, has_bit, last_post, mark_events, mark_phase}
+use Rattle.onvm_core.specs.Marks.MarkEvent.{Passed, Posted}
 
 -- Throttles
 
 -- the function's mark is raised and not cleared: of the run of last posts that have its bit, the pass of the first
 -- found high and low, and each pass from that one on found low
-pub data IsRaised (f : ℕ) : Marks → Type 0 where
+pub data IsRaised (f : ℕ) : MarkEvents → Type 0 where
   -- the first post of the run, and its pass
-  ByPost : (value : ℕ) (pass : Pass) (before : Marks)
+  ByPost : (value : ℕ) (pass : Pass) (before : MarkEvents)
       → has_bit value f ≡ true → has_bit (last_post before) f ≡ false
       → finds true f pass ≡ true → finds false f pass ≡ true
       → IsRaised f (Posted value ∷ Passed pass ∷ before)
-  ByAnotherPost : (value : ℕ) (before : Marks) → has_bit value f ≡ true → IsRaised f before
+  ByAnotherPost : (value : ℕ) (before : MarkEvents) → has_bit value f ≡ true → IsRaised f before
       → IsRaised f (Posted value ∷ before)
-  ByPass : (pass : Pass) (before : Marks) → finds false f pass ≡ true → IsRaised f before
+  ByPass : (pass : Pass) (before : MarkEvents) → finds false f pass ≡ true → IsRaised f before
       → IsRaised f (Passed pass ∷ before)
 
--- the same but for a pass that the feeder is still in: its looks aren't in the marks, or they are and its post is due
-abbrev pub IsRaisedUpToNow : Ages → ℕ → Marks → Type 0
-IsRaisedUpToNow aged f marks =
-    IsRaised f marks
-    ⊎ ((pass : Pass) × (before : Marks) × (marks ≡ Passed pass ∷ before)
-    × (¬ IsPaid aged marks)
+-- the same but for a pass that the feeder is still in: its looks aren't all made, or they are and its post is due
+abbrev pub IsRaisedUpToNow : Ages → ℕ → MarkEvents → Type 0
+IsRaisedUpToNow aged f events =
+    IsRaised f events
+    ⊎ ((pass : Pass) × (before : MarkEvents) × (events ≡ Passed pass ∷ before)
+    × (¬ IsPaid aged events)
     × IsRaised f before)
 
 -- a frame that a look recorded as throttled after these steps: the feeder's word had this post, with the bit of this
@@ -53,32 +54,27 @@ pub record IsEarnedThrottle (setting : Setting) (aged : ℕ → Ages) (past : Hi
   pub seen : ℕ
   pub shown : value_of setting.layout past (PostWord feeder) ≡ seen
   pub number : seen / 2 ^ 32 ≡ post
-  pub held : IsHeld setting e feeder seen told
+  pub held : IsThrottleRecord setting e feeder seen told
   pub names : held.function ≡ function
-  pub raised : IsRaisedUpToNow (aged feeder) function (standing setting feeder (log_of feeder past)).marks
-
--- a mark is cleared by the pass that doesn't find low: where the last post has the bit, a post without it follows at
--- once
-abbrev pub Clears : ℕ → Marks → Type 0
-Clears f [] = Unit {0}
-Clears f (Posted value ∷ []) = Unit {0}
-Clears f (Passed pass ∷ []) = Unit {0}
-Clears f (Posted value ∷ Posted other ∷ before) = Clears f (Posted other ∷ before)
-Clears f (Posted value ∷ Passed pass ∷ before) =
-    (has_bit (last_post before) f ≡ true → finds false f pass ≡ false → has_bit value f ≡ false)
-    × Clears f (Passed pass ∷ before)
-Clears f (Passed later ∷ Posted value ∷ before) = Clears f (Posted value ∷ before)
-Clears f (Passed later ∷ Passed pass ∷ before) =
-    (has_bit (last_post before) f ≡ true → finds false f pass ≡ true)
-    × Clears f (Passed pass ∷ before)
-
--- The same in the log: a pass is made without a break, and the post that clears a mark is the very next act
+  pub raised : IsRaisedUpToNow (aged feeder) function (mark_events setting feeder (log_of feeder past))
 
 -- the newest pass didn't find low, though the last post has the bit
-abbrev pub IsDue : ℕ → Marks → Type 0
+abbrev pub IsDue : ℕ → MarkEvents → Type 0
 IsDue f [] = ⊥
 IsDue f (Posted value ∷ before) = ⊥
 IsDue f (Passed pass ∷ before) = (has_bit (last_post before) f ≡ true) × (finds false f pass ≡ false)
+
+-- a post without the function's bit
+abbrev pub IsWithout : ℕ → MarkEvent → Type 0
+IsWithout f (Posted value) = has_bit value f ≡ false
+IsWithout f (Passed pass) = ⊥
+
+-- a mark is cleared by the pass that doesn't find low: a post without its bit follows at once
+abbrev pub Clears : ℕ → MarkEvents → Type 0
+Clears f [] = Unit {0}
+Clears f (event ∷ before) = (IsDue f before → IsWithout f event) × Clears f before
+
+-- The same in the log: a pass is made without a break, and the post that clears a mark is the very next act
 
 abbrev pub IsPostWithout : ℕ → Act → Type 0
 IsPostWithout f (Post word value) = has_bit value f ≡ false
@@ -91,8 +87,8 @@ IsLaneLook _ = ⊥
 abbrev pub ClearsAtOnce : Setting → (feeder function : ℕ) → Log → Type 0
 ClearsAtOnce setting feeder f [] = Unit {0}
 ClearsAtOnce setting feeder f (act ∷ before) =
-    ((standing setting feeder before).left ≢ [] → IsLaneLook act)
-    × (IsDue f (standing setting feeder before).marks → IsPostWithout f act)
+    (¬ IsResting (mark_phase setting feeder before) → IsLaneLook act)
+    × (IsDue f (mark_events setting feeder before) → IsPostWithout f act)
     × ClearsAtOnce setting feeder f before
 
 -- Overflows
@@ -110,7 +106,7 @@ pub record IsEarnedEmpty (setting : Setting) (role : ℕ) (log : Log) (act : Act
   pub index : ℕ
   pub told : Record
   pub look : act ≡ Look (PoolWord (record { 0 = role }) index) 0 (Some told)
-  pub last : setting.layout.buffers ≤ 64 * (index + 1)
+  pub last : setting.layout.buffers ≤ WORD_BITS * (index + 1)
   pub earlier : EndsWithLooks role index log
 
 -- the ring was full: the role found the lane full directly before it gave the buffer back

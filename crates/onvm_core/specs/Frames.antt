@@ -9,9 +9,9 @@ use Rattle.onvm_core.specs.declared.step.Act.TheVariants.{Take, Give, Push, Pop}
 use Rattle.onvm_core.specs.declared.place.Place.TheVariants.{Pool}
 use Rattle.onvm_core.specs.History.{History, place_of}
 use Rattle.onvm_core.specs.Records.{records_in}
-use Rattle.onvm_core.specs.Places.{all_below, how_many}
-use Rattle.onvm_core.specs.Logs.{Setting, Log, log_of, of_port}
-use Rattle.onvm_core.specs.Receiving.{receive_phase, ReceivePhase, done_in}
+use Rattle.onvm_core.specs.Places.{numbers_below, how_many}
+use Rattle.onvm_core.specs.Logs.{Setting, Log, log_of, entries_of_port}
+use Rattle.onvm_core.specs.Receiving.{receive_phase, ReceivePhase, done_count}
 use Rattle.onvm_core.specs.Receiving.ReceivePhase.{Between, Asks, Seeks, Sees, Took, Barred}
 
 -- what a buffer outside the pool has: a frame for which it was just taken, or the parcel of its last push or pop
@@ -25,7 +25,8 @@ frame_of (Loaded parcel) = parcel.frame
 
 -- the frame of the block that a receive role is in
 abbrev pub block_frame : Setting → ℕ → Log → FrameId
-block_frame setting port log = record { port = record { 0 = port }; number = done_in (receive_phase setting log) + 1 }
+block_frame setting port log =
+    record { port = record { 0 = port }; number = done_count (receive_phase setting log) + 1 }
 
 abbrev pub load_of : ℕ → Item → Option Load → Option Load
 load_of buf (Buffer b parcel) was = if b.0 == buf then Some (Loaded parcel) else was
@@ -52,36 +53,36 @@ has_frame frame None = false
 has_frame frame (Some l) = same_frame (frame_of l) frame
 
 -- how many buffers have the frame
-abbrev pub buffers_with : Setting → FrameId → History → ℕ
-buffers_with setting frame past =
+abbrev pub buffer_count : Setting → FrameId → History → ℕ
+buffer_count setting frame past =
     how_many (λ buf. has_frame frame (load setting buf past))
-    (all_below (setting.layout.ports * setting.layout.buffers))
+    (numbers_below (setting.layout.ports * setting.layout.buffers))
 
 -- how many records there are of the frame
-abbrev pub records_of : FrameId → History → ℕ
-records_of frame past = how_many (λ told. same_frame told.frame frame) (records_in past)
+abbrev pub record_count : FrameId → History → ℕ
+record_count frame past = how_many (λ told. same_frame told.frame frame) (records_in past)
 
 -- of how many frames the block has a take or a record
-abbrev pub begun_in : ReceivePhase → ℕ
-begun_in (Between done) = done
-begun_in (Asks done k) = done
-begun_in (Seeks done k) = done
-begun_in (Sees done index seen) = done
-begun_in (Took done buf) = done + 1
-begun_in (Barred done buf ring) = done + 1
+abbrev pub begun_count : ReceivePhase → ℕ
+begun_count (Between done) = done
+begun_count (Asks done k) = done
+begun_count (Seeks done k) = done
+begun_count (Sees done index seen) = done
+begun_count (Took done buf) = done + 1
+begun_count (Barred done buf ring) = done + 1
 
 -- the frame's block has a take or a record
 abbrev pub has_begun : Setting → FrameId → History → Bool
 has_begun setting frame past =
     nat_lt frame.port.0 setting.layout.ports
     && (nat_lt 0 frame.number
-    && nat_le frame.number (begun_in (receive_phase setting (log_of frame.port.0 past))))
+    && nat_le frame.number (begun_count (receive_phase setting (log_of frame.port.0 past))))
 
 -- every frame's block has ended
 abbrev pub AllEnded : Setting → History → Type 0
 AllEnded setting past =
     (port : ℕ) → port < setting.layout.ports
-    → (receive_phase setting (log_of port past) ≡ Between (length (of_port port setting.entries)))
+    → (receive_phase setting (log_of port past) ≡ Between (length (entries_of_port port setting.entries)))
 
 -- every buffer is in the pool
 abbrev pub AllInPool : Setting → History → Type 0

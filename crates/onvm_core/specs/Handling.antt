@@ -1,5 +1,6 @@
 -- The pattern of a core's log: each parcel that it pops from a lane it pushes, handled, on the function's output ring.
 use Rattle.std.specs.Prelude.{ℕ, ◌≡◌, ◌-◌, ◌*◌, ◌/◌, ◌%◌, ◌<◌, min, max, Bool, false, ◌==◌, if◌then◌else◌, [], ◌∷◌, Option, Some, None, slice_get}
+use Rattle.onvm_base.specs.declared.limits.TheConstants.{MAX_BUDGET, WEIGHT_ONE}
 use Rattle.onvm_base.specs.declared.function.FunctionPlan.{FunctionPlan}
 use Rattle.onvm_base.specs.declared.ids.FnId.{FnId}
 use Rattle.onvm_base.specs.declared.ids.RingId.{RingId}
@@ -8,6 +9,7 @@ use Rattle.onvm_base.specs.declared.plan.Plan.{Plan}
 use Rattle.onvm_core.specs.declared.layout.Word.{Word}
 use Rattle.onvm_core.specs.declared.layout.Word.TheVariants.{Cell, Weight}
 use Rattle.onvm_core.specs.declared.parcel.Parcel.{Parcel}
+use Rattle.onvm_core.specs.declared.parcel.TheConstants.{MAX_PLACE}
 use Rattle.onvm_core.specs.declared.step.Item.TheVariants.{Buffer, Number}
 use Rattle.onvm_core.specs.declared.step.Act.{Act}
 use Rattle.onvm_core.specs.declared.step.Act.TheVariants.{Push, Full, Pop, Empty, Look}
@@ -19,15 +21,15 @@ pub record IsOwn (setting : Setting) (role : ℕ) (f : FnId) : Type 0 where
   pub known : f.0 < setting.layout.functions
   pub core : core_role setting.layout f.0 ≡ role
 
-abbrev pub handles : Act → Option Hand → Option Hand
-handles (Pop (Lane f p) (Buffer b parcel)) was = Some (record { function = f; buf = b.0; parcel = parcel })
-handles (Push (Output f) item) was = None
-handles _ was = was
+abbrev pub hand_after : Act → Option Hand → Option Hand
+hand_after (Pop (Lane f p) (Buffer b parcel)) was = Some (record { function = f; buf = b.0; parcel = parcel })
+hand_after (Push (Output f) item) was = None
+hand_after _ was = was
 
 -- the parcel that a core has in hand: popped from a lane, and not pushed on the output ring yet
 abbrev pub core_hand : Log → Option Hand
 core_hand [] = None
-core_hand (act ∷ before) = handles act (core_hand before)
+core_hand (act ∷ before) = hand_after act (core_hand before)
 
 -- Room: since the last push on the output ring, or the start, there was a look of value 0 at the cell of the next push
 
@@ -46,25 +48,25 @@ pub data SawRoom (setting : Setting) (f : FnId) : Log → Type 0 where
 
 -- Budget: how many pops a look at the weight word allows, up to the next
 
-abbrev pub weight_in : Option FunctionPlan → ℕ
-weight_in None = 0
-weight_in (Some p) = p.weight
+abbrev pub planned_weight : Option FunctionPlan → ℕ
+planned_weight None = 0
+planned_weight (Some p) = p.weight
 
 -- a weight word of 0 stands for the plan's weight
 abbrev pub budget : Plan → FnId → ℕ → ℕ
 budget plan f seen =
-    let weight = if seen == 0 then weight_in (slice_get plan.functions f.0) else seen in
-    min 1024 (max 1 (plan.burst * weight / 1024))
+    let weight = if seen == 0 then planned_weight (slice_get plan.functions f.0) else seen in
+    min MAX_BUDGET (max 1 (plan.burst * weight / WEIGHT_ONE))
 
-abbrev pub left_after : Plan → FnId → Act → ℕ → ℕ
-left_after plan f (Look (Weight g) seen told) left = if g.0 == f.0 then budget plan f seen else left
-left_after plan f (Pop (Lane g p) (Buffer b parcel)) left = if g.0 == f.0 then left - 1 else left
-left_after plan f _ left = left
+abbrev pub budget_left_after : Plan → FnId → Act → ℕ → ℕ
+budget_left_after plan f (Look (Weight g) seen told) left = if g.0 == f.0 then budget plan f seen else left
+budget_left_after plan f (Pop (Lane g p) (Buffer b parcel)) left = if g.0 == f.0 then left - 1 else left
+budget_left_after plan f _ left = left
 
 -- what a function has left of its budget: nothing before its first look at the weight word
 abbrev pub budget_left : Plan → FnId → Log → ℕ
 budget_left plan f [] = 0
-budget_left plan f (act ∷ before) = left_after plan f act (budget_left plan f before)
+budget_left plan f (act ∷ before) = budget_left_after plan f act (budget_left plan f before)
 
 -- Acts
 
@@ -77,7 +79,7 @@ pub record MayPop (setting : Setting) (role : ℕ) (before : Log) (f : FnId) (fe
 
 -- the crumb's place is how many entries the journal had before, as far as a crumb counts
 abbrev pub crumb_place : FnId → Log → ℕ
-crumb_place f before = min (push_count (Output f) before) 4294967295
+crumb_place f before = min (push_count (Output f) before) MAX_PLACE
 
 pub record MayPush (setting : Setting) (role : ℕ) (before : Log) (f : FnId) (buf : ℕ) (parcel : Parcel) : Type 0 where
   pub own : IsOwn setting role f

@@ -42,26 +42,26 @@ content_of ring past = drop (length (popped_from ring past)) (pushed_on ring pas
 
 -- Places
 
-abbrev pub put_in : RingId → ℕ → Item → Option Place
-put_in ring buf (Buffer b parcel) = if b.0 == buf then Some (Ring ring) else None
-put_in ring buf (Number n) = None
+abbrev pub place_by_push : RingId → ℕ → Item → Option Place
+place_by_push ring buf (Buffer b parcel) = if b.0 == buf then Some (Ring ring) else None
+place_by_push ring buf (Number n) = None
 
-abbrev pub got_by : ℕ → ℕ → Item → Option Place
-got_by role buf (Buffer b parcel) = if b.0 == buf then Some (Role role) else None
-got_by role buf (Number n) = None
+abbrev pub place_by_pop : ℕ → ℕ → Item → Option Place
+place_by_pop role buf (Buffer b parcel) = if b.0 == buf then Some (Role role) else None
+place_by_pop role buf (Number n) = None
 
 -- where an act of a role puts a buffer, if it names it
-abbrev pub puts : ℕ → ℕ → Act → Option Place
-puts buf role (Take b) = if b.0 == buf then Some (Role role) else None
-puts buf role (Give b outcome parcel) = if b.0 == buf then Some Pool else None
-puts buf role (Push ring item) = put_in ring buf item
-puts buf role (Pop ring item) = got_by role buf item
-puts buf role _ = None
+abbrev pub place_by : ℕ → ℕ → Act → Option Place
+place_by buf role (Take b) = if b.0 == buf then Some (Role role) else None
+place_by buf role (Give b outcome parcel) = if b.0 == buf then Some Pool else None
+place_by buf role (Push ring item) = place_by_push ring buf item
+place_by buf role (Pop ring item) = place_by_pop role buf item
+place_by buf role _ = None
 
 -- where a buffer is: where the last step that names it put it, and in the pool at first
 abbrev pub place_of : ℕ → History → Place
 place_of buf [] = Pool
-place_of buf (step ∷ before) = unwrap_or (puts buf step.role step.act) (place_of buf before)
+place_of buf (step ∷ before) = unwrap_or (place_by buf step.role step.act) (place_of buf before)
 
 -- Roles
 

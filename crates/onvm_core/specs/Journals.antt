@@ -1,5 +1,5 @@
 -- The journals of functions, and what the crumbs of a parcel say of them.
-use Rattle.std.specs.Prelude.{ℕ, ◌≡◌, ◌≤◌, ◌==◌, if◌then◌else◌, List, [], ◌∷◌, ◌++◌, length, Option, Some, None, slice_get}
+use Rattle.std.specs.Prelude.{ℕ, ◌≡◌, ◌+◌, ◌≤◌, ◌==◌, if◌then◌else◌, List, [], ◌∷◌, ◌++◌, length, Option, Some, None, slice_get}
 use Rattle.onvm_base.specs.declared.ids.FnId.{FnId}
 use Rattle.onvm_base.specs.declared.ids.FrameId.{FrameId}
 use Rattle.onvm_base.specs.declared.ids.RingId.TheVariants.{Output}
@@ -7,13 +7,14 @@ use Rattle.onvm_base.specs.declared.outcome.Verdict.{Verdict}
 use Rattle.onvm_base.specs.declared.outcome.Verdict.TheVariants.{Drop}
 use Rattle.onvm_core.specs.declared.parcel.Crumb.{Crumb}
 use Rattle.onvm_core.specs.declared.parcel.Parcel.{Parcel}
+use Rattle.onvm_core.specs.declared.parcel.TheConstants.{MAX_PLACE}
 use Rattle.onvm_core.specs.declared.entry.Entry.{Entry}
 use Rattle.onvm_core.specs.declared.step.Item.TheVariants.{Buffer}
 use Rattle.onvm_core.specs.declared.step.Act.{Act}
 use Rattle.onvm_core.specs.declared.step.Act.TheVariants.{Give, Push, Pop}
 use Rattle.onvm_core.specs.Layouts.{core_role}
 use Rattle.onvm_core.specs.History.{History}
-use Rattle.onvm_core.specs.Logs.{Setting, Log, log_of, last_crumb, frame_after}
+use Rattle.onvm_core.specs.Logs.{Setting, Log, log_of, last_crumb, entry_after}
 
 -- that a function handled a parcel: the parcel as it was popped, the verdict, and the bytes that were pushed
 pub record Handling : Type 0 where
@@ -26,9 +27,9 @@ popped_or buf (Pop ring (Buffer b parcel)) was = if b.0 == buf then Some parcel 
 popped_or buf _ was = was
 
 -- the parcel with which a role last popped a buffer
-abbrev pub last_popped : ℕ → Log → Option Parcel
-last_popped buf [] = None
-last_popped buf (act ∷ before) = popped_or buf act (last_popped buf before)
+abbrev pub last_popped_parcel : ℕ → Log → Option Parcel
+last_popped_parcel buf [] = None
+last_popped_parcel buf (act ∷ before) = popped_or buf act (last_popped_parcel buf before)
 
 abbrev pub verdict_in : Option Crumb → Verdict
 verdict_in None = Drop
@@ -42,7 +43,7 @@ handling None after = []
 -- what an act of the function's core adds to the function's journal
 abbrev pub handlings : FnId → Act → Log → List Handling
 handlings f (Push (Output g) (Buffer b after)) before =
-    if g.0 == f.0 then handling (last_popped b.0 before) after else []
+    if g.0 == f.0 then handling (last_popped_parcel b.0 before) after else []
 handlings f _ before = []
 
 -- the journal of a function, in the log of its core: an entry for each push on its output ring, the oldest first
@@ -53,9 +54,9 @@ journal f (act ∷ before) = journal f before ++ handlings f act before
 abbrev pub journal_of : Setting → History → FnId → List Handling
 journal_of setting past f = journal f (log_of (core_role setting.layout f.0) past)
 
--- no journal has more entries than a crumb counts
+-- no journal has more entries than crumbs can tell apart
 abbrev pub HasShortJournals : Setting → History → Type 0
-HasShortJournals setting past = (f : FnId) → length (journal_of setting past f) ≤ 4294967296
+HasShortJournals setting past = (f : FnId) → length (journal_of setting past f) ≤ MAX_PLACE + 1
 
 -- a function that acts so goes through these handlings, from one state to another
 abbrev pub GoesThrough : {S : Type 0} → (S → Handling → S → Type 0) → S → List Handling → S → Type 0
@@ -75,7 +76,7 @@ pub record IsTraced (setting : Setting) (past : History) (parcel : Parcel) : Typ
   pub entry : Entry
   pub port : ℕ
   pub done : ℕ
-  pub captured : frame_after setting port done ≡ Some entry
+  pub captured : entry_after setting port done ≡ Some entry
   pub frame : entry.frame ≡ parcel.frame
   pub leads : LeadsTo (journal_of setting past) parcel.frame entry.packet parcel.trail parcel.packet
 

@@ -1,5 +1,6 @@
 -- Which lists of steps are lawful.
 use Rattle.std.specs.Prelude.{ℕ, ◌≡◌, ◌≢◌, ◌+◌, ◌/◌, ◌^◌, ◌<◌, ◌≤◌, true, false, if◌then◌else◌, IsBitSet, [], ◌∷◌, length, Option, Some, None, slice_get}
+use Rattle.onvm_base.specs.declared.limits.TheConstants.{MAX_HOPS}
 use Rattle.onvm_base.specs.declared.ids.RingId.{RingId}
 use Rattle.onvm_base.specs.declared.ids.RingId.TheVariants.{Lane, Output, Mail}
 use Rattle.onvm_base.specs.declared.outcome.Outcome.{Outcome}
@@ -69,12 +70,13 @@ pub record AllowsGive (layout : Layout) (before : History) (role buf : ℕ) (out
 
 -- Part 4: push
 
--- the item is of the ring's kind and the role's to push: a buffer that it holds, with a parcel that was handled at most
--- 31 times on a lane, and from 1 to 32 times on an output ring; or on a mail ring a number
+-- the item is of the ring's kind and the role's to push: a buffer that it holds, with a parcel that may be handled once
+-- more on a lane, and was handled on an output ring; or on a mail ring a number
 abbrev pub Suits : Layout → History → ℕ → RingId → Item → Type 0
-Suits layout past role (Lane f feeder) (Buffer buf parcel) = Holds layout past role buf.0 × (length parcel.trail ≤ 31)
+Suits layout past role (Lane f feeder) (Buffer buf parcel) =
+    Holds layout past role buf.0 × (length parcel.trail < MAX_HOPS)
 Suits layout past role (Output f) (Buffer buf parcel) =
-    Holds layout past role buf.0 × (1 ≤ length parcel.trail) × (length parcel.trail ≤ 32)
+    Holds layout past role buf.0 × (1 ≤ length parcel.trail) × (length parcel.trail ≤ MAX_HOPS)
 Suits layout past role (Mail f) (Number n) = Unit {0}
 Suits layout past role (Lane f feeder) (Number n) = ⊥
 Suits layout past role (Output f) (Number n) = ⊥

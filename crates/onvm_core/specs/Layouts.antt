@@ -1,5 +1,6 @@
 -- The roles, rings, buffers and words of a layout.
 use Rattle.std.specs.Prelude.{ℕ, ◌≡◌, ◌+◌, ◌-◌, ◌*◌, ◌/◌, ◌%◌, ◌<◌, Bool, false, ◌==◌, ◌&&◌, slice_index, length, ◌++◌, map, replicate, All}
+use Rattle.onvm_base.specs.declared.limits.TheConstants.{MAIL_RING, MAX_BUFFERS, MAX_CORES, MAX_FUNCTIONS, MAX_PORTS, MAX_RING, MAX_TRANSMIT_ROLES, MIN_RING, WORD_BITS}
 use Rattle.onvm_base.specs.declared.ids.RingId.{RingId}
 use Rattle.onvm_base.specs.declared.ids.RingId.TheVariants.{Lane, Output, Mail}
 use Rattle.onvm_base.specs.declared.plan.Plan.{Plan}
@@ -7,17 +8,16 @@ use Rattle.onvm_base.specs.Plan.{IsFrom}
 use Rattle.onvm_core.specs.declared.layout.Layout.{Layout}
 use Rattle.onvm_core.specs.declared.layout.Word.{Word}
 use Rattle.onvm_core.specs.declared.layout.Word.TheVariants.{Pool, Cell, Post, Weight}
-use Rattle.onvm_core.specs.declared.layout.TheConstants.{MAX_FUNCTIONS, MAIL_CELLS}
 
 -- the numbers of a layout are in their ranges
 pub record IsLayout (layout : Layout) : Type 0 where
-  pub ports : IsFrom 1 4 layout.ports
-  pub transmit : IsFrom 1 4 layout.transmit
-  pub cores : IsFrom 1 8 layout.cores
+  pub ports : IsFrom 1 MAX_PORTS layout.ports
+  pub transmit : IsFrom 1 MAX_TRANSMIT_ROLES layout.transmit
+  pub cores : IsFrom 1 MAX_CORES layout.cores
   pub functions : IsFrom 1 MAX_FUNCTIONS layout.functions
-  pub buffers : IsFrom 1 1024 layout.buffers
-  pub ring : IsFrom 2 1024 layout.ring
-  pub output : IsFrom 2 1024 layout.output
+  pub buffers : IsFrom 1 MAX_BUFFERS layout.buffers
+  pub ring : IsFrom MIN_RING MAX_RING layout.ring
+  pub output : IsFrom MIN_RING MAX_RING layout.output
   pub places : length layout.core_of ≡ MAX_FUNCTIONS
   pub core_of : All (λ core. core < layout.cores) layout.core_of
 
@@ -71,7 +71,7 @@ consumer layout (Mail f) = tick_role layout
 abbrev pub ring_size : Layout → RingId → ℕ
 ring_size layout (Lane f feeder) = layout.ring
 ring_size layout (Output f) = layout.output
-ring_size layout (Mail f) = MAIL_CELLS
+ring_size layout (Mail f) = MAIL_RING
 
 abbrev pub same_ring : RingId → RingId → Bool
 same_ring (Lane f p) (Lane g q) = (f.0 == g.0) && (p == q)
@@ -98,21 +98,21 @@ port_of layout buf = buf / layout.buffers
 
 -- the layout has this word
 abbrev pub IsWord : Layout → Word → Type 0
-IsWord layout (Pool port index) = (port.0 < layout.ports) × (64 * index < layout.buffers)
+IsWord layout (Pool port index) = (port.0 < layout.ports) × (WORD_BITS * index < layout.buffers)
 IsWord layout (Cell ring at) = IsRing layout ring × (at < ring_size layout ring)
 IsWord layout (Post feeder) = IsFeeder layout feeder
 IsWord layout (Weight f) = f.0 < layout.functions
 
 -- the word that has a buffer's bit, and which bit it is
 abbrev pub word_of : Layout → ℕ → Word
-word_of layout buf = Pool (record { 0 = port_of layout buf }) (buf % layout.buffers / 64)
+word_of layout buf = Pool (record { 0 = port_of layout buf }) (buf % layout.buffers / WORD_BITS)
 
 abbrev pub bit_of : Layout → ℕ → ℕ
-bit_of layout buf = buf % layout.buffers % 64
+bit_of layout buf = buf % layout.buffers % WORD_BITS
 
 -- the buffer of a bit of a word of a part
 abbrev pub buffer_of_bit : Layout → (port index bit : ℕ) → ℕ
-buffer_of_bit layout port index bit = port * layout.buffers + 64 * index + bit
+buffer_of_bit layout port index bit = port * layout.buffers + WORD_BITS * index + bit
 
 abbrev pub same_word : Word → Word → Bool
 same_word (Pool p i) (Pool q j) = (p.0 == q.0) && (i == j)

@@ -22,13 +22,13 @@ log_of role [] = []
 log_of role (step ∷ before) = if step.role == role then step.act ∷ log_of role before else log_of role before
 
 -- how often a log has a push on a ring
-abbrev pub one_more : RingId → Act → ℕ → ℕ
-one_more ring (Push r item) n = if same_ring r ring then n + 1 else n
-one_more ring _ n = n
+abbrev pub push_count_after : RingId → Act → ℕ → ℕ
+push_count_after ring (Push r item) n = if same_ring r ring then n + 1 else n
+push_count_after ring _ n = n
 
 abbrev pub push_count : RingId → Log → ℕ
 push_count ring [] = 0
-push_count ring (act ∷ before) = one_more ring act (push_count ring before)
+push_count ring (act ∷ before) = push_count_after ring act (push_count ring before)
 
 -- what a run is of
 pub record Setting : Type 0 where
@@ -37,22 +37,22 @@ pub record Setting : Type 0 where
   pub entries : List Entry
 
 -- how many roles push on lanes
-abbrev pub feeders : Setting → ℕ
-feeders setting = setting.layout.ports + setting.layout.transmit
+abbrev pub feeder_count : Setting → ℕ
+feeder_count setting = setting.layout.ports + setting.layout.transmit
 
 -- Frames
 
-abbrev pub of_port : ℕ → List Entry → List Entry
-of_port port [] = []
-of_port port (e ∷ es) = if e.frame.port.0 == port then e ∷ of_port port es else of_port port es
+abbrev pub entries_of_port : ℕ → List Entry → List Entry
+entries_of_port port [] = []
+entries_of_port port (e ∷ es) = if e.frame.port.0 == port then e ∷ entries_of_port port es else entries_of_port port es
 
 -- the frame of a port that comes after so many of its frames
-abbrev pub frame_after : Setting → (port done : ℕ) → Option Entry
-frame_after setting port done = slice_get (of_port port setting.entries) done
+abbrev pub entry_after : Setting → (port done : ℕ) → Option Entry
+entry_after setting port done = slice_get (entries_of_port port setting.entries) done
 
 -- the frames of each port have the numbers 1, 2, .. in order
 abbrev pub IsNumbered : Setting → Type 0
-IsNumbered setting = (port done : ℕ) (e : Entry) → frame_after setting port done ≡ Some e
+IsNumbered setting = (port done : ℕ) (e : Entry) → entry_after setting port done ≡ Some e
     → e.frame ≡ record { port = record { 0 = port }; number = done + 1 }
 
 -- Parcels
@@ -79,8 +79,8 @@ pub record IsHandled (function : FnId) (place : ℕ) (before after : Parcel) : T
   }
 
 -- the parcel after a move
-abbrev pub moved_to : ℕ → Parcel → Parcel
-moved_to cursor parcel = record parcel { cursor = cursor }
+abbrev pub with_cursor : ℕ → Parcel → Parcel
+with_cursor cursor parcel = record parcel { cursor = cursor }
 
 abbrev pub last_crumb : List Crumb → Option Crumb
 last_crumb trail = slice_get trail (length trail - 1)

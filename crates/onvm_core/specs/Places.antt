@@ -12,9 +12,9 @@ use Rattle.onvm_core.specs.Layouts.{same_ring}
 use Rattle.onvm_core.specs.History.{History, content_of, place_of}
 
 -- the numbers below n
-abbrev pub all_below : ℕ → List ℕ
-all_below zero = []
-all_below (suc n) = n ∷ all_below n
+abbrev pub numbers_below : ℕ → List ℕ
+numbers_below zero = []
+numbers_below (suc n) = n ∷ numbers_below n
 
 abbrev pub without : ℕ → List ℕ → List ℕ
 without buf [] = []
@@ -28,30 +28,30 @@ pool_after (Give b outcome parcel) bufs = b.0 ∷ bufs
 pool_after _ bufs = bufs
 
 abbrev pub pool_of : Layout → History → List ℕ
-pool_of layout [] = all_below (layout.ports * layout.buffers)
+pool_of layout [] = numbers_below (layout.ports * layout.buffers)
 pool_of layout (step ∷ before) = pool_after step.act (pool_of layout before)
 
 -- A role's hands: the buffers that it took or popped, without those given or pushed
 
-abbrev pub hands_over : Item → List ℕ → List ℕ
-hands_over (Buffer b parcel) bufs = without b.0 bufs
-hands_over (Number n) bufs = bufs
+abbrev pub held_after_push : Item → List ℕ → List ℕ
+held_after_push (Buffer b parcel) bufs = without b.0 bufs
+held_after_push (Number n) bufs = bufs
 
-abbrev pub receives : Item → List ℕ → List ℕ
-receives (Buffer b parcel) bufs = b.0 ∷ bufs
-receives (Number n) bufs = bufs
+abbrev pub held_after_pop : Item → List ℕ → List ℕ
+held_after_pop (Buffer b parcel) bufs = b.0 ∷ bufs
+held_after_pop (Number n) bufs = bufs
 
-abbrev pub held_after : Act → List ℕ → List ℕ
-held_after (Take b) bufs = b.0 ∷ bufs
-held_after (Give b outcome parcel) bufs = without b.0 bufs
-held_after (Push ring item) bufs = hands_over item bufs
-held_after (Pop ring item) bufs = receives item bufs
-held_after _ bufs = bufs
+abbrev pub held_buffers_after : Act → List ℕ → List ℕ
+held_buffers_after (Take b) bufs = b.0 ∷ bufs
+held_buffers_after (Give b outcome parcel) bufs = without b.0 bufs
+held_buffers_after (Push ring item) bufs = held_after_push item bufs
+held_buffers_after (Pop ring item) bufs = held_after_pop item bufs
+held_buffers_after _ bufs = bufs
 
-abbrev pub held_by : ℕ → History → List ℕ
-held_by role [] = []
-held_by role (step ∷ before) =
-    if step.role == role then held_after step.act (held_by role before) else held_by role before
+abbrev pub held_buffers : ℕ → History → List ℕ
+held_buffers role [] = []
+held_buffers role (step ∷ before) =
+    if step.role == role then held_buffers_after step.act (held_buffers role before) else held_buffers role before
 
 -- Each buffer stands once
 
@@ -67,9 +67,9 @@ how_many test (x ∷ xs) = one_if (test x) + how_many test xs
 abbrev pub times : ℕ → List ℕ → ℕ
 times buf bufs = how_many (λ b. b == buf) bufs
 
-abbrev pub is_buffer : ℕ → Item → Bool
-is_buffer buf (Buffer b parcel) = b.0 == buf
-is_buffer buf (Number n) = false
+abbrev pub is_of_buffer : ℕ → Item → Bool
+is_of_buffer buf (Buffer b parcel) = b.0 == buf
+is_of_buffer buf (Number n) = false
 
 abbrev pub same_place : Place → Place → Bool
 same_place Pool Pool = true
@@ -83,14 +83,14 @@ same_place (Role m) (Ring r) = false
 same_place (Role m) (Role n) = m == n
 
 -- once where the buffer's place is this one, and elsewhere not at all
-abbrev pub once_at : Place → History → ℕ → ℕ
-once_at there past buf = one_if (same_place (place_of buf past) there)
+abbrev pub one_if_at : Place → History → ℕ → ℕ
+one_if_at there past buf = one_if (same_place (place_of buf past) there)
 
 -- a buffer is in exactly one of the pool, one ring's content, once, or one role's hands, and that is its place
 pub record StandsOnce (layout : Layout) (past : History) (buf : ℕ) : Type 0 where
-  pub in_pool : times buf (pool_of layout past) ≡ once_at Pool past buf
-  pub in_ring : (ring : RingId) → how_many (is_buffer buf) (content_of ring past) ≡ once_at (Ring ring) past buf
-  pub in_hands : (role : ℕ) → times buf (held_by role past) ≡ once_at (Role role) past buf
+  pub in_pool : times buf (pool_of layout past) ≡ one_if_at Pool past buf
+  pub in_ring : (ring : RingId) → how_many (is_of_buffer buf) (content_of ring past) ≡ one_if_at (Ring ring) past buf
+  pub in_hands : (role : ℕ) → times buf (held_buffers role past) ≡ one_if_at (Role role) past buf
 
 -- the first list is the front of the second
 abbrev pub IsPrefixOf : {A : Type 0} → List A → List A → Type 0

@@ -1,5 +1,6 @@
 -- The pattern of a receive role's log: one block for each frame of its port, in order, and marks passes between.
 use Rattle.std.specs.Prelude.{ℕ, ◌≡◌, ◌+◌, ◌*◌, ◌/◌, ◌%◌, ◌^◌, ◌<◌, ◌≤◌, ◌⊎◌, ◌==◌, if◌then◌else◌, IsBitSet, [], ◌∷◌, Option, Some, None}
+use Rattle.onvm_base.specs.declared.limits.TheConstants.{WORD_BITS}
 use Rattle.onvm_base.specs.declared.ids.FnId.{FnId}
 use Rattle.onvm_base.specs.declared.ids.RingId.{RingId}
 use Rattle.onvm_base.specs.declared.ids.RingId.TheVariants.{Lane}
@@ -15,7 +16,7 @@ use Rattle.onvm_core.specs.declared.step.Item.TheVariants.{Buffer}
 use Rattle.onvm_core.specs.declared.step.Act.{Act}
 use Rattle.onvm_core.specs.declared.step.Act.TheVariants.{Take, Give, Push, Full, Look, Post}
 use Rattle.onvm_core.specs.Layouts.{IsBuffer, bit_of, word_of}
-use Rattle.onvm_core.specs.Logs.{Log, Setting, entry_parcel, feeders, frame_after}
+use Rattle.onvm_core.specs.Logs.{Log, Setting, entry_parcel, feeder_count, entry_after}
 
 -- where a receive role stands: so many blocks have ended, and in the next one ..
 pub data ReceivePhase : Type 0 where
@@ -32,19 +33,19 @@ pub data ReceivePhase : Type 0 where
   Barred : (done buf : ℕ) (ring : RingId) → ReceivePhase
 
 -- a look at a post word, and at a word of the part: with a record the block ends
-abbrev pub asked : Setting → (done k : ℕ) → Option Record → ReceivePhase
-asked setting done k None = if k + 1 == feeders setting then Seeks done 0 else Asks done (k + 1)
-asked setting done k (Some told) = Between (done + 1)
+abbrev pub phase_after_ask : Setting → (done k : ℕ) → Option Record → ReceivePhase
+phase_after_ask setting done k None = if k + 1 == feeder_count setting then Seeks done 0 else Asks done (k + 1)
+phase_after_ask setting done k (Some told) = Between (done + 1)
 
-abbrev pub sought : (done k seen : ℕ) → Option Record → ReceivePhase
-sought done k seen None = if seen == 0 then Seeks done (k + 1) else Sees done k seen
-sought done k seen (Some told) = Between (done + 1)
+abbrev pub phase_after_seek : (done k seen : ℕ) → Option Record → ReceivePhase
+phase_after_seek done k seen None = if seen == 0 then Seeks done (k + 1) else Sees done k seen
+phase_after_seek done k seen (Some told) = Between (done + 1)
 
 -- where an act leads
 abbrev pub receive_after : Setting → ReceivePhase → Act → ReceivePhase
-receive_after setting (Between done) (Look (PostWord feeder) seen told) = asked setting done 0 told
-receive_after setting (Asks done k) (Look word seen told) = asked setting done k told
-receive_after setting (Seeks done k) (Look word seen told) = sought done k seen told
+receive_after setting (Between done) (Look (PostWord feeder) seen told) = phase_after_ask setting done 0 told
+receive_after setting (Asks done k) (Look word seen told) = phase_after_ask setting done k told
+receive_after setting (Seeks done k) (Look word seen told) = phase_after_seek done k seen told
 receive_after setting (Sees done index seen) (Take buf) = Took done buf.0
 receive_after setting (Took done buf) (Push ring item) = Between (done + 1)
 receive_after setting (Took done buf) (Give b outcome parcel) = Between (done + 1)
@@ -57,13 +58,13 @@ receive_phase setting [] = Between 0
 receive_phase setting (act ∷ before) = receive_after setting (receive_phase setting before) act
 
 -- how many blocks have ended
-abbrev pub done_in : ReceivePhase → ℕ
-done_in (Between done) = done
-done_in (Asks done k) = done
-done_in (Seeks done k) = done
-done_in (Sees done index seen) = done
-done_in (Took done buf) = done
-done_in (Barred done buf ring) = done
+abbrev pub done_count : ReceivePhase → ℕ
+done_count (Between done) = done
+done_count (Asks done k) = done
+done_count (Seeks done k) = done
+done_count (Sees done index seen) = done
+done_count (Took done buf) = done
+done_count (Barred done buf ring) = done
 
 -- Part 1, admit: looks at the post words of the feeders in order
 
@@ -73,7 +74,7 @@ pub record Raises (setting : Setting) (e : Entry) (seen f : ℕ) : Type 0 where
   pub bit : IsBitSet (seen % 2 ^ 32) f
 
 -- the first value with such a bit records the frame as throttled, by this post and the lowest such function
-pub record IsHeld (setting : Setting) (e : Entry) (k seen : ℕ) (told : Record) : Type 0 where
+pub record IsThrottleRecord (setting : Setting) (e : Entry) (k seen : ℕ) (told : Record) : Type 0 where
   pub function : ℕ
   pub raised : Raises setting e seen function
   pub lowest : (g : ℕ) → g < function → ¬ Raises setting e seen g
@@ -81,20 +82,20 @@ pub record IsHeld (setting : Setting) (e : Entry) (k seen : ℕ) (told : Record)
 
 abbrev pub MayAsk : Setting → Entry → ℕ → Word → ℕ → Option Record → Type 0
 MayAsk setting e k word seen None = (word ≡ PostWord k) × ((f : ℕ) → ¬ Raises setting e seen f)
-MayAsk setting e k word seen (Some told) = (word ≡ PostWord k) × IsHeld setting e k seen told
+MayAsk setting e k word seen (Some told) = (word ≡ PostWord k) × IsThrottleRecord setting e k seen told
 
 -- Part 2, seek: looks at the words of the part in order. Where the last one is 0 too, the pool is empty
 
-pub record IsLost (setting : Setting) (e : Entry) (k seen : ℕ) (told : Record) : Type 0 where
+pub record IsPoolEmptyRecord (setting : Setting) (e : Entry) (k seen : ℕ) (told : Record) : Type 0 where
   pub none : seen ≡ 0
-  pub last : setting.layout.buffers ≤ 64 * (k + 1)
+  pub last : setting.layout.buffers ≤ WORD_BITS * (k + 1)
   pub told_is : told ≡ record { frame = e.frame; outcome = PoolEmpty }
 
 abbrev pub MaySeek : Setting → ℕ → Entry → ℕ → Word → ℕ → Option Record → Type 0
 MaySeek setting port e k word seen None =
-    (word ≡ PoolWord (record { 0 = port }) k) × (seen ≡ 0 → 64 * (k + 1) < setting.layout.buffers)
+    (word ≡ PoolWord (record { 0 = port }) k) × (seen ≡ 0 → WORD_BITS * (k + 1) < setting.layout.buffers)
 MaySeek setting port e k word seen (Some told) =
-    (word ≡ PoolWord (record { 0 = port }) k) × IsLost setting e k seen told
+    (word ≡ PoolWord (record { 0 = port }) k) × IsPoolEmptyRecord setting e k seen told
 
 -- Part 3, take: the buffer of the lowest bit shown
 pub record IsLowest (layout : Layout) (port index seen buf : ℕ) : Type 0 where
@@ -134,11 +135,11 @@ MayReceiveFor setting port e phase act = ⊥
 -- Marks passes stand between blocks
 
 -- a step of a marks pass: a look at a cell of an own lane, or a post on the own word
-abbrev pub IsMark : Setting → ℕ → Act → Type 0
-IsMark setting feeder (Look (Cell (Lane f p) at) seen told) =
+abbrev pub IsMarkAct : Setting → ℕ → Act → Type 0
+IsMarkAct setting feeder (Look (Cell (Lane f p) at) seen told) =
     (f.0 < setting.layout.functions) × (p ≡ feeder) × (at < setting.layout.ring) × (told ≡ None)
-IsMark setting feeder (Post word new) = word ≡ PostWord feeder
-IsMark setting feeder _ = ⊥
+IsMarkAct setting feeder (Post word new) = word ≡ PostWord feeder
+IsMarkAct setting feeder _ = ⊥
 
 abbrev pub IsBetween : ReceivePhase → Type 0
 IsBetween (Between done) = Unit {0}
@@ -147,6 +148,6 @@ IsBetween _ = ⊥
 -- the act may follow in the log of the receive role of a port
 abbrev pub MayReceive : Setting → ℕ → Log → Act → Type 0
 MayReceive setting port before act =
-    (IsBetween (receive_phase setting before) × IsMark setting port act)
-    ⊎ ((e : Entry) × (frame_after setting port (done_in (receive_phase setting before)) ≡ Some e)
+    (IsBetween (receive_phase setting before) × IsMarkAct setting port act)
+    ⊎ ((e : Entry) × (entry_after setting port (done_count (receive_phase setting before)) ≡ Some e)
     × MayReceiveFor setting port e (receive_phase setting before) act)

@@ -8,23 +8,23 @@ use Rattle.onvm_core.specs.declared.step.Act.TheVariants.{Give, Look}
 use Rattle.onvm_core.specs.History.{History}
 
 -- what an act records
-abbrev pub recorded : Act → List Record
-recorded (Give buf outcome parcel) = record { frame = parcel.frame; outcome = outcome } ∷ []
-recorded (Look word seen (Some told)) = told ∷ []
-recorded _ = []
+abbrev pub records_of_act : Act → List Record
+records_of_act (Give buf outcome parcel) = record { frame = parcel.frame; outcome = outcome } ∷ []
+records_of_act (Look word seen (Some told)) = told ∷ []
+records_of_act _ = []
 
 -- the records of these steps, the oldest first
 abbrev pub records_in : History → List Record
 records_in [] = []
-records_in (step ∷ before) = records_in before ++ recorded step.act
+records_in (step ∷ before) = records_in before ++ records_of_act step.act
 
 -- what an act sends
-abbrev pub sent : Act → List SentFrame
-sent (Give buf (Sent port) parcel) =
+abbrev pub sent_frames_of_act : Act → List SentFrame
+sent_frames_of_act (Give buf (Sent port) parcel) =
     record { frame = parcel.frame; stamp = parcel.stamp; packet = parcel.packet } ∷ []
-sent _ = []
+sent_frames_of_act _ = []
 
 -- the frames that these steps sent, the oldest first
-abbrev pub sent_in : History → List SentFrame
-sent_in [] = []
-sent_in (step ∷ before) = sent_in before ++ sent step.act
+abbrev pub sent_frames_in : History → List SentFrame
+sent_frames_in [] = []
+sent_frames_in (step ∷ before) = sent_frames_in before ++ sent_frames_of_act step.act

@@ -11,38 +11,38 @@ use Rattle.onvm_core.specs.Logs.{Log}
 abbrev pub count_in : ℕ → ℕ
 count_in sample = sample / 2 ^ 40
 
-abbrev pub since_after : FnId → Act → ℕ → ℕ
-since_after f (Push (Output g) item) n = if g.0 == f.0 then n + 1 else n
-since_after f (Push (Mail g) item) n = if g.0 == f.0 then 0 else n
-since_after f (Full (Mail g)) n = if g.0 == f.0 then 0 else n
-since_after f _ n = n
+abbrev pub unsampled_count_after : FnId → Act → ℕ → ℕ
+unsampled_count_after f (Push (Output g) item) n = if g.0 == f.0 then n + 1 else n
+unsampled_count_after f (Push (Mail g) item) n = if g.0 == f.0 then 0 else n
+unsampled_count_after f (Full (Mail g)) n = if g.0 == f.0 then 0 else n
+unsampled_count_after f _ n = n
 
 -- how many frames the function handled since its last sample, mailed or lost
-abbrev pub handled_since : FnId → Log → ℕ
-handled_since f [] = 0
-handled_since f (act ∷ before) = since_after f act (handled_since f before)
+abbrev pub unsampled_count : FnId → Log → ℕ
+unsampled_count f [] = 0
+unsampled_count f (act ∷ before) = unsampled_count_after f act (unsampled_count f before)
 
-abbrev pub mails_after : FnId → Act → ℕ → ℕ
-mails_after f (Push (Mail g) (Number n)) sum = if g.0 == f.0 then count_in n + sum else sum
-mails_after f _ sum = sum
+abbrev pub mailed_count_after : FnId → Act → ℕ → ℕ
+mailed_count_after f (Push (Mail g) (Number n)) sum = if g.0 == f.0 then count_in n + sum else sum
+mailed_count_after f _ sum = sum
 
 -- the counts of the function's mailed samples together
 abbrev pub mailed_count : FnId → Log → ℕ
 mailed_count f [] = 0
-mailed_count f (act ∷ before) = mails_after f act (mailed_count f before)
+mailed_count f (act ∷ before) = mailed_count_after f act (mailed_count f before)
 
-abbrev pub loses_after : FnId → Act → (since sum : ℕ) → ℕ
-loses_after f (Full (Mail g)) since sum = if g.0 == f.0 then since + sum else sum
-loses_after f _ since sum = sum
+abbrev pub lost_count_after : FnId → Act → (since sum : ℕ) → ℕ
+lost_count_after f (Full (Mail g)) since sum = if g.0 == f.0 then since + sum else sum
+lost_count_after f _ since sum = sum
 
 -- the frames of the samples that met a full mail ring together
 abbrev pub lost_count : FnId → Log → ℕ
 lost_count f [] = 0
-lost_count f (act ∷ before) = loses_after f act (handled_since f before) (lost_count f before)
+lost_count f (act ∷ before) = lost_count_after f act (unsampled_count f before) (lost_count f before)
 
 -- a sample counts the frames since the last one, and there are some
 abbrev pub MaySample : Log → Act → Type 0
-MaySample before (Push (Mail f) (Number n)) = (count_in n ≡ handled_since f before) × (0 < handled_since f before)
+MaySample before (Push (Mail f) (Number n)) = (count_in n ≡ unsampled_count f before) × (0 < unsampled_count f before)
 MaySample before _ = Unit {0}
 
 abbrev pub AreSamples : Log → Type 0

@@ -14,8 +14,8 @@ use Rattle.onvm_core.specs.declared.step.Item.TheVariants.{Buffer}
 use Rattle.onvm_core.specs.declared.step.Act.{Act}
 use Rattle.onvm_core.specs.declared.step.Act.TheVariants.{Give, Push, Full, Pop, Empty}
 use Rattle.onvm_core.specs.Layouts.{consumer}
-use Rattle.onvm_core.specs.Logs.{Log, Setting, Hand, last_crumb, moved_to}
-use Rattle.onvm_core.specs.Receiving.{IsMark}
+use Rattle.onvm_core.specs.Logs.{Log, Setting, Hand, last_crumb, with_cursor}
+use Rattle.onvm_core.specs.Receiving.{IsMarkAct}
 
 -- where a transmit role stands: free, with a parcel to move, or with one whose ring it found full
 pub data SendPhase : Type 0 where
@@ -54,7 +54,7 @@ pub record GoesBy (setting : Setting) (feeder : ℕ) (parcel : Parcel) (cursor :
 
 abbrev pub MaySendOn : Setting → ℕ → Hand → Act → Type 0
 MaySendOn setting feeder hand (Push ring (Buffer b parcel)) = (b.0 ≡ hand.buf)
-    × ((cursor : ℕ) × GoesBy setting feeder hand.parcel cursor ring × (parcel ≡ moved_to cursor hand.parcel))
+    × ((cursor : ℕ) × GoesBy setting feeder hand.parcel cursor ring × (parcel ≡ with_cursor cursor hand.parcel))
 MaySendOn setting feeder hand (Full ring) = (cursor : ℕ) × GoesBy setting feeder hand.parcel cursor ring
 MaySendOn setting feeder hand (Give b (Sent q) parcel) =
     (b.0 ≡ hand.buf) × IsNext setting hand.parcel (Leave q) × (parcel ≡ hand.parcel)
@@ -67,8 +67,8 @@ MaySendOn setting feeder hand _ = ⊥
 abbrev pub MaySend : Setting → ℕ → SendPhase → Act → Type 0
 MaySend setting role Free (Pop (Output f) (Buffer b parcel)) = Reads setting role f
 MaySend setting role Free (Empty (Output f)) = Reads setting role f
-MaySend setting role Free act = IsMark setting role act
+MaySend setting role Free act = IsMarkAct setting role act
 MaySend setting role (Moves hand) act = MaySendOn setting role hand act
 MaySend setting role (TurnsBack hand ring) (Give b outcome parcel) = (b.0 ≡ hand.buf) × (outcome ≡ RingFull ring)
-    × ((cursor : ℕ) × GoesBy setting role hand.parcel cursor ring × (parcel ≡ moved_to cursor hand.parcel))
+    × ((cursor : ℕ) × GoesBy setting role hand.parcel cursor ring × (parcel ≡ with_cursor cursor hand.parcel))
 MaySend setting role (TurnsBack hand ring) act = ⊥

@@ -1,14 +1,13 @@
 //! Items of rings.
 ghost use Rattle.std.specs.Prelude.{◌≡◌, ◌↔◌, ◌≤◌, IsTrue, IsNone, IfSome, length, reverse, slice_get};
 ghost use Rattle.onvm_core.specs.History.{pushed_on};
-ghost use Rattle.onvm_core.specs.Words.{number_of as number_of_item};
+ghost use Rattle.onvm_core.specs.Words.{number_of};
 
 use crate::parcel::{Parcel, Trail};
 use crate::scan::same_ring;
 use crate::step::{Act, Item, Step};
 use onvm_base::RingId;
 
-// Whether two trails are one.
 fn same_trail(one: &Trail, other: &Trail) -> bool
     ensures { IsTrue result ↔ (one.now ≡ other.now) }
 {
@@ -23,7 +22,6 @@ fn same_trail(one: &Trail, other: &Trail) -> bool
     true
 }
 
-// Whether two parcels are one.
 fn same_parcel(one: &Parcel, other: &Parcel) -> bool
     ensures { IsTrue result ↔ (one.now ≡ other.now) }
 {
@@ -36,7 +34,6 @@ fn same_parcel(one: &Parcel, other: &Parcel) -> bool
         && same_trail(&one.trail, &other.trail)
 }
 
-// Whether two items are one.
 pub fn same_item(one: &Item, other: &Item) -> bool
     ensures { IsTrue result ↔ (one.now ≡ other.now) }
 {
@@ -69,7 +66,7 @@ pub fn item_at(steps: &[Step], ring: RingId, at: usize) -> Option<&Item>
 
 // What a cell shows of an item.
 pub fn number_of(item: &Item) -> u64
-    ensures { result ≡ number_of_item item.now }
+    ensures { result ≡ number_of item.now }
 {
     match item {
         Item::Buffer(b, _) => b.0 as u64 + 1,

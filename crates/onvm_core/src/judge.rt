@@ -1,40 +1,36 @@
 //! Which step a list of steps allows next.
 ghost use Rattle.std.specs.Prelude.{◌≡◌, ◌↔◌, IsTrue, reverse};
-ghost use Rattle.onvm_core.specs.History.{is_live as is_live_after};
-ghost use Rattle.onvm_core.specs.Layouts.{IsBuffer, IsLayout, IsRing, first_role as first_role_of};
-ghost use Rattle.onvm_core.specs.Lawful.{Allows, AllowsAct, AllowsEmpty, AllowsFull, AllowsGive, AllowsJoin, AllowsLook, AllowsPop, AllowsPost, AllowsPush, AllowsSplit, AllowsTake, Holds, HoldsNothing, NamesRing, NamesRingIn, Showed, Suits, part_of as part_of_act};
+ghost use Rattle.onvm_core.specs.History.{is_live};
+ghost use Rattle.onvm_core.specs.Layouts.{IsBuffer, IsLayout, IsRing, first_role};
+ghost use Rattle.onvm_core.specs.Lawful.{Allows, AllowsAct, AllowsEmpty, AllowsFull, AllowsGive, AllowsJoin, AllowsLook, AllowsPop, AllowsPost, AllowsPush, AllowsSplit, AllowsTake, Holds, HoldsNothing, NamesRing, NamesRingIn, Showed, Suits, part_of};
 
 use crate::item::{item_at, same_item};
 use crate::layout::{Layout, Word};
 use crate::place::Place;
 use crate::rings::{consumer, is_ring, producer, ring_size, tick_role};
-use crate::scan::{is_split, latest_look, moved, place_of, post_count, same_word};
+use crate::scan::{is_split, latest_look, place_of, post_count, ring_counts, same_word};
 use crate::step::{Act, Item, Step};
 use crate::word::{is_word, value_of};
-use onvm_base::{BufId, Outcome, PortId, Record, RingId};
+use onvm_base::{BufId, MAX_HOPS, Outcome, PortId, Record, RingId, WORD_BITS};
 
-// The role of the first token.
 fn first_role(layout: &Layout) -> u32
-    ensures { result ≡ first_role_of layout.now }
+    ensures { result ≡ first_role layout.now }
 {
     tick_role(layout) + 1
 }
 
-// Whether the role is live.
 pub fn is_live(layout: &Layout, steps: &[Step], role: u32) -> bool
-    ensures { result ≡ is_live_after layout.now role (reverse steps.now) }
+    ensures { result ≡ is_live layout.now role (reverse steps.now) }
 {
     role == first_role(layout) || is_split(steps, role)
 }
 
-// Whether the layout has the buffer.
 pub fn is_buffer(layout: &Layout, buf: BufId) -> bool
     ensures { IsTrue result ↔ IsBuffer layout.now buf.0 }
 {
     (buf.0 as u32) < layout.ports as u32 * layout.buffers as u32
 }
 
-// Whether the place is that of the role.
 fn is_role(place: Place, role: u32) -> bool
     ensures { IsTrue result ↔ (place ≡ Place.Role role) }
 {
@@ -44,14 +40,12 @@ fn is_role(place: Place, role: u32) -> bool
     }
 }
 
-// Whether the role holds the buffer.
 fn holds(layout: &Layout, steps: &[Step], role: u32, buf: BufId) -> bool
     ensures { IsTrue result ↔ Holds layout.now (reverse steps.now) role buf.0 }
 {
     is_buffer(layout, buf) && is_role(place_of(steps, buf), role)
 }
 
-// Whether the role holds no buffer.
 fn holds_nothing(layout: &Layout, steps: &[Step], role: u32) -> bool
     requires { IsLayout layout.now }
     ensures { IsTrue result ↔ HoldsNothing layout.now (reverse steps.now) role }
@@ -80,7 +74,6 @@ fn allows_join(layout: &Layout, steps: &[Step], role: u32, other: u32) -> bool
         && holds_nothing(layout, steps, other)
 }
 
-// Whether the look showed the bit of the buffer.
 fn showed(layout: &Layout, buf: BufId, look: Option<(Word, u64)>) -> bool
     requires ranges { IsLayout layout.now }
     requires known { IsBuffer layout.now buf.0 }
@@ -93,9 +86,9 @@ fn showed(layout: &Layout, buf: BufId, look: Option<(Word, u64)>) -> bool
     let at = buf.0 % layout.buffers;
     let own = Word::Pool {
         port,
-        index: (at / 64) as u8,
+        index: (at / WORD_BITS) as u8,
     };
-    same_word(word, own) && seen & (1 << (at % 64)) != 0
+    same_word(word, own) && seen & (1 << (at % WORD_BITS)) != 0
 }
 
 fn allows_take(layout: &Layout, steps: &[Step], role: u32, buf: BufId) -> bool
@@ -130,7 +123,7 @@ fn suits(layout: &Layout, steps: &[Step], role: u32, ring: RingId, item: &Item) 
 {
     match (ring, item) {
         (RingId::Lane(_, _), Item::Buffer(buf, parcel)) => holds(layout, steps, role, *buf)
-            && parcel.trail.len() <= 31,
+            && parcel.trail.len() < MAX_HOPS,
         (RingId::Output(_), Item::Buffer(buf, parcel)) => holds(layout, steps, role, *buf)
             && 1 <= parcel.trail.len(),
         (RingId::Mail(_), Item::Number(_)) => true,
@@ -145,7 +138,7 @@ fn allows_push(layout: &Layout, steps: &[Step], role: u32, ring: RingId, item: &
     if !is_ring(layout, ring) {
         return false;
     }
-    let (pushed, popped) = moved(steps, ring);
+    let (pushed, popped) = ring_counts(steps, ring);
     role == producer(layout, ring)
         && pushed.saturating_sub(popped) < ring_size(layout, ring) as usize
         && suits(layout, steps, role, ring, item)
@@ -158,7 +151,7 @@ fn allows_full(layout: &Layout, steps: &[Step], role: u32, ring: RingId) -> bool
     if !is_ring(layout, ring) {
         return false;
     }
-    let (pushed, popped) = moved(steps, ring);
+    let (pushed, popped) = ring_counts(steps, ring);
     role == producer(layout, ring)
         && pushed.saturating_sub(popped) == ring_size(layout, ring) as usize
 }
@@ -170,7 +163,7 @@ fn allows_pop(layout: &Layout, steps: &[Step], role: u32, ring: RingId, item: &I
     if !is_ring(layout, ring) {
         return false;
     }
-    let (_, popped) = moved(steps, ring);
+    let (_, popped) = ring_counts(steps, ring);
     match item_at(steps, ring, popped) {
         Some(first) => role == consumer(layout, ring) && same_item(first, item),
         None => false,
@@ -185,7 +178,7 @@ fn allows_empty(layout: &Layout, steps: &[Step], role: u32, ring: RingId) -> boo
     if !is_ring(layout, ring) {
         return false;
     }
-    let (pushed, popped) = moved(steps, ring);
+    let (pushed, popped) = ring_counts(steps, ring);
     role == consumer(layout, ring) && pushed <= popped
 }
 
@@ -223,7 +216,6 @@ fn allows_post(layout: &Layout, steps: &[Step], role: u32, word: Word, new: u64)
     }
 }
 
-// Whether these steps allow the role the act.
 fn allows_act(layout: &Layout, steps: &[Step], role: u32, act: &Act) -> bool
     requires { IsLayout layout.now }
     ensures { IsTrue result ↔ AllowsAct layout.now (reverse steps.now) role act.now }
@@ -242,7 +234,6 @@ fn allows_act(layout: &Layout, steps: &[Step], role: u32, act: &Act) -> bool
     }
 }
 
-// Whether these steps allow the step.
 pub fn allows(layout: &Layout, steps: &[Step], step: &Step) -> bool
     requires { IsLayout layout.now }
     ensures { IsTrue result ↔ Allows layout.now (reverse steps.now) step.now }
@@ -252,7 +243,7 @@ pub fn allows(layout: &Layout, steps: &[Step], step: &Step) -> bool
 
 // The part of the rules that an act falls under.
 pub fn part_of(act: &Act) -> u8
-    ensures { result ≡ part_of_act act.now }
+    ensures { result ≡ part_of act.now }
 {
     match act {
         Act::Split(_) | Act::Join(_) => 1,

@@ -15,19 +15,19 @@ ghost use Rattle.onvm_core.specs.declared.place.Place.TheVariants.{Pool};
 ghost use Rattle.onvm_core.specs.declared.step.Act.TheVariants.{Give, Look};
 ghost use Rattle.onvm_core.specs.declared.step.Step.{Step};
 ghost use Rattle.onvm_core.specs.Earned.{Clears, ClearsAtOnce, IsDropped, IsEarnedEmpty, IsEarnedFull, IsEarnedThrottle, IsSent, MayRecord};
-ghost use Rattle.onvm_core.specs.Marks.{Ages, AllMarked, last_post, standing};
+ghost use Rattle.onvm_core.specs.Marks.{Ages, AllMarked, last_post, mark_events};
 ghost use Rattle.onvm_core.specs.Words.{value_of};
-ghost use Rattle.onvm_core.specs.Records.{recorded};
+ghost use Rattle.onvm_core.specs.Records.{records_of_act};
 ghost use Rattle.onvm_core.specs.Layouts.{IsBuffer, IsFeeder, IsLayout, core_role, ring_size};
 ghost use Rattle.onvm_core.specs.History.{History, content_of, place_of, popped_from, pushed_on};
 ghost use Rattle.onvm_core.specs.Lawful.{IsLawful};
 ghost use Rattle.onvm_core.specs.Places.{IsPrefixOf, StandsOnce, one_if};
-ghost use Rattle.onvm_core.specs.Logs.{IsNumbered, Setting, frame_after, log_of};
+ghost use Rattle.onvm_core.specs.Logs.{IsNumbered, Setting, entry_after, log_of};
 ghost use Rattle.onvm_core.specs.Blocks.{AllOfBlocks, IsOfBlocks};
-ghost use Rattle.onvm_core.specs.Frames.{AllEnded, AllInPool, buffers_with, has_begun, load, records_of};
+ghost use Rattle.onvm_core.specs.Frames.{AllEnded, AllInPool, buffer_count, has_begun, load, record_count};
 ghost use Rattle.onvm_core.specs.Journals.{HasShortJournals, IsTraced, Names, journal_of};
 ghost use Rattle.onvm_core.specs.Potential.{potential, potential_of_logs};
-ghost use Rattle.onvm_core.specs.Samples.{AreSamples, handled_since, is_sampled, lost_count, mailed_count};
+ghost use Rattle.onvm_core.specs.Samples.{AreSamples, unsampled_count, is_sampled, lost_count, mailed_count};
 
 /// One place: at every moment each buffer is in exactly one of the pool, one ring's content, once,
 /// or one role's hands, and that is its place.
@@ -51,7 +51,7 @@ pub fn t3_2()
 pub fn t3_3()
     ensures one { (setting : Setting) (past : History) → IsNumbered setting
         → IsLawful setting.layout past → AllOfBlocks setting past → (frame : FrameId)
-        → records_of frame past + buffers_with setting frame past
+        → record_count frame past + buffer_count setting frame past
         ≡ one_if (has_begun setting frame past) }
     ensures pool { (setting : Setting) (past : History) (buf : ℕ)
         → place_of buf past ≡ Pool → load setting buf past ≡ None }
@@ -72,7 +72,7 @@ pub fn t3_6()
     ensures { (setting : Setting) (past : History) → IsNumbered setting
         → IsLawful setting.layout past → AllOfBlocks setting past → AllEnded setting past
         → AllInPool setting past → (port number : ℕ) (e : Entry) → port < setting.layout.ports
-        → frame_after setting port number ≡ Some e → records_of e.frame past ≡ 1 }
+        → entry_after setting port number ≡ Some e → record_count e.frame past ≡ 1 }
 {}
 
 /// It ends: no step raises the potential. It can be told from the roles' logs alone.
@@ -93,9 +93,9 @@ pub fn t3_5()
     ensures throttled { (setting : Setting) (aged : ℕ → Ages) (step : Step) (before : History)
         (told : Record) (feeder post : ℕ) (function : FnId)
         → IsLawful setting.layout (step ∷ before) → AllOfBlocks setting (step ∷ before)
-        → AllMarked setting aged before → recorded step.act ≡ told ∷ []
+        → AllMarked setting aged before → records_of_act step.act ≡ told ∷ []
         → told.outcome ≡ Throttled feeder post function
-        → (e : Entry) × (done : ℕ) × (frame_after setting step.role done ≡ Some e)
+        → (e : Entry) × (done : ℕ) × (entry_after setting step.role done ≡ Some e)
         × (told.frame ≡ e.frame)
         × (step.act ≡ Look (PostWord feeder)
         (value_of setting.layout before (PostWord feeder)) (Some told))
@@ -103,18 +103,18 @@ pub fn t3_5()
     ensures shown { (setting : Setting) (past : History) (feeder : ℕ)
         → IsLawful setting.layout past → IsFeeder setting.layout feeder
         → value_of setting.layout past (PostWord feeder)
-        ≡ last_post (standing setting feeder (log_of feeder past)).marks }
+        ≡ last_post (mark_events setting feeder (log_of feeder past)) }
     ensures cleared { (setting : Setting) (aged : ℕ → Ages) (past : History) (feeder f : ℕ)
         → AllMarked setting aged past → IsFeeder setting.layout feeder
-        → Clears f (standing setting feeder (log_of feeder past)).marks }
+        → Clears f (mark_events setting feeder (log_of feeder past)) }
     ensures at_once { (setting : Setting) (aged : ℕ → Ages) (past : History) (feeder f : ℕ)
         → AllMarked setting aged past → IsFeeder setting.layout feeder
         → ClearsAtOnce setting feeder f (log_of feeder past) }
     ensures ring_full { (setting : Setting) (step : Step) (before : History) (told : Record)
-        (ring : RingId) → AllOfBlocks setting (step ∷ before) → recorded step.act ≡ told ∷ []
+        (ring : RingId) → AllOfBlocks setting (step ∷ before) → records_of_act step.act ≡ told ∷ []
         → told.outcome ≡ RingFull ring → IsEarnedFull (log_of step.role before) ring }
     ensures pool_empty { (setting : Setting) (step : Step) (before : History) (told : Record)
-        → AllOfBlocks setting (step ∷ before) → recorded step.act ≡ told ∷ []
+        → AllOfBlocks setting (step ∷ before) → records_of_act step.act ≡ told ∷ []
         → told.outcome ≡ PoolEmpty
         → IsEarnedEmpty setting step.role (log_of step.role before) step.act
         × (told.frame.port.0 ≡ step.role) }
@@ -126,7 +126,7 @@ pub fn t3_5()
         (parcel : Parcel) → AllOfBlocks setting (step ∷ before)
         → step.act ≡ Give b (Sent q) parcel → IsSent setting parcel q }
     ensures kinds { (setting : Setting) (step : Step) (before : History) (told : Record)
-        → AllOfBlocks setting (step ∷ before) → recorded step.act ≡ told ∷ []
+        → AllOfBlocks setting (step ∷ before) → records_of_act step.act ≡ told ∷ []
         → MayRecord step.act told.outcome }
 {}
 
@@ -142,7 +142,7 @@ pub fn t3_7()
         → AreSamples (log_of (core_role setting.layout f.0) past)
         → mailed_count f (log_of (core_role setting.layout f.0) past)
         + lost_count f (log_of (core_role setting.layout f.0) past)
-        + handled_since f (log_of (core_role setting.layout f.0) past)
+        + unsampled_count f (log_of (core_role setting.layout f.0) past)
         ≡ length (journal_of setting past f) }
     ensures complete { (setting : Setting) (past : History) (f : FnId) → IsLayout setting.layout
         → f.0 < setting.layout.functions

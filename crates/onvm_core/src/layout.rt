@@ -2,13 +2,7 @@
 ghost use Rattle.std.specs.Prelude.{◌≡◌};
 ghost use Rattle.onvm_core.specs.Layouts.{IsLayout, IsLayoutOf};
 
-use onvm_base::{FnId, Plan, PortId, RingId};
-
-/// The most functions of a board.
-pub const MAX_FUNCTIONS: usize = 32;
-
-/// Cells of a mail ring.
-pub const MAIL_CELLS: u16 = 64;
+use onvm_base::{FnId, MAX_FUNCTIONS, Plan, PortId, RingId};
 
 /// How many parts of each kind a board has.
 #[derive(Clone, Copy, Debug)]
@@ -31,7 +25,7 @@ pub struct Layout {
 /// A word of the board.
 #[derive(Clone, Copy, Debug, PartialEq, Eq)]
 pub enum Word {
-    /// 64 buffers of a port, a bit for each that is in the pool.
+    /// [`WORD_BITS`](onvm_base::WORD_BITS) buffers of a port, a bit for each that is in the pool.
     Pool { port: PortId, index: u8 },
     /// A cell of a ring: 0, or a buffer's number plus 1, or in a mail ring a number.
     Cell { ring: RingId, at: u16 },

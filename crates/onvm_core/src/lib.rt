@@ -25,7 +25,7 @@ mod word;
 pub use entry::{Entries, Entry};
 pub use judged::Judged;
 pub use layout::{Layout, Word};
-pub use parcel::{Crumb, Parcel, Trail};
+pub use parcel::{Crumb, MAX_PLACE, Parcel, Trail};
 pub use place::Place;
 pub use state::{State, apply};
 pub use step::{Act, Item, Step};

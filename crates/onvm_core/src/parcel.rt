@@ -5,20 +5,23 @@ ghost use Rattle.onvm_base.specs.declared.limits.TheConstants.{MAX_HOPS};
 use onvm_base::{ChainId, FnId, FrameId, MAX_HOPS, Packet, Stamp, Verdict};
 use std::marker::Model;
 
+/// The largest place that a crumb names; a journal that is longer doesn't stop its function.
+pub const MAX_PLACE: u32 = 4_294_967_295;
+
 /// That a function handled the frame.
 #[derive(Clone, Copy, Debug, PartialEq, Eq)]
 pub struct Crumb {
-    pub function: FnId,
-    /// How many entries the function's journal had before, at most 4,294,967,295.
+    /// How many entries the function's journal had before, at most [`MAX_PLACE`].
     pub place: u32,
+    pub function: FnId,
     pub verdict: Verdict,
 }
 
-/// The crumbs of a frame, the oldest first. There are at most 32, and they take no memory.
+/// The crumbs of a frame, the oldest first. There are at most [`MAX_HOPS`], and they take no memory.
 #[derive(Debug, Drop)]
 pub struct Trail {
-    crumbs: [Crumb; MAX_HOPS as usize],
     len: u8,
+    crumbs: [Crumb; MAX_HOPS as usize],
 }
 
 impl Model for Trail {
@@ -80,11 +83,11 @@ impl Trail {
 pub struct Parcel {
     pub frame: FrameId,
     pub stamp: Stamp,
+    /// The flow hash at entry.
+    pub hash: u32,
     pub packet: Packet,
     pub chain: ChainId,
     /// The place in the chain's steps.
     pub cursor: u8,
-    /// The flow hash at entry.
-    pub hash: u32,
     pub trail: Trail,
 }

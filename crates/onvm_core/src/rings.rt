@@ -1,11 +1,10 @@
 //! The rings of a layout: who pushes, who pops, how many items fit.
 ghost use Rattle.std.specs.Prelude.{◌≡◌, ◌<◌, ◌↔◌, IsTrue};
-ghost use Rattle.onvm_core.specs.Layouts.{IsLayout, IsRing, consumer as consumer_of, core_role as core_role_of, producer as producer_of, ring_size as ring_size_of, tick_role as tick_role_of};
+ghost use Rattle.onvm_core.specs.Layouts.{IsLayout, IsRing, consumer, core_role, producer, ring_size, tick_role};
 
-use crate::layout::{Layout, MAIL_CELLS};
-use onvm_base::{FnId, RingId};
+use crate::layout::Layout;
+use onvm_base::{FnId, MAIL_RING, RingId};
 
-// Whether the layout has the ring.
 pub fn is_ring(layout: &Layout, ring: RingId) -> bool
     ensures { IsTrue result ↔ IsRing layout.now ring }
 {
@@ -17,30 +16,27 @@ pub fn is_ring(layout: &Layout, ring: RingId) -> bool
     }
 }
 
-// How many items the ring takes.
 pub fn ring_size(layout: &Layout, ring: RingId) -> u16
-    ensures { result ≡ ring_size_of layout.now ring }
+    ensures { result ≡ ring_size layout.now ring }
 {
     match ring {
         RingId::Lane(_, _) => layout.ring,
         RingId::Output(_) => layout.output,
-        RingId::Mail(_) => MAIL_CELLS,
+        RingId::Mail(_) => MAIL_RING,
     }
 }
 
-// The role of the core of a function.
 fn core_role(layout: &Layout, f: FnId) -> u32
     requires ranges { IsLayout layout.now }
     requires known { f.0 < layout.now.functions }
-    ensures { result ≡ core_role_of layout.now f.0 }
+    ensures { result ≡ core_role layout.now f.0 }
 {
     let core = layout.core_of[f.0 as usize];
     layout.ports as u32 + layout.transmit as u32 + core as u32
 }
 
-// The tick role.
 pub fn tick_role(layout: &Layout) -> u32
-    ensures { result ≡ tick_role_of layout.now }
+    ensures { result ≡ tick_role layout.now }
 {
     layout.ports as u32 + layout.transmit as u32 + layout.cores as u32
 }
@@ -49,7 +45,7 @@ pub fn tick_role(layout: &Layout) -> u32
 pub fn producer(layout: &Layout, ring: RingId) -> u32
     requires ranges { IsLayout layout.now }
     requires known { IsRing layout.now ring }
-    ensures { result ≡ producer_of layout.now ring }
+    ensures { result ≡ producer layout.now ring }
 {
     match ring {
         RingId::Lane(_, feeder) => feeder as u32,
@@ -62,7 +58,7 @@ pub fn producer(layout: &Layout, ring: RingId) -> u32
 pub fn consumer(layout: &Layout, ring: RingId) -> u32
     requires ranges { IsLayout layout.now }
     requires known { IsRing layout.now ring }
-    ensures { result ≡ consumer_of layout.now ring }
+    ensures { result ≡ consumer layout.now ring }
 {
     match ring {
         RingId::Lane(f, _) => core_role(layout, f),

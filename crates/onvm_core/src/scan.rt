@@ -1,16 +1,15 @@
 //! What a list of steps, the oldest first, leaves.
 ghost use Rattle.std.specs.Prelude.{◌≡◌, length, reverse};
-ghost use Rattle.onvm_core.specs.Layouts.{same_ring as same_ring_is, same_word as same_word_is};
-ghost use Rattle.onvm_core.specs.History.{is_split as is_split_after, latest_look as latest_look_in, place_of as place_in, popped_from, post_count as post_count_in, posted_on as posted_in, pushed_on, puts as puts_by, split_after};
+ghost use Rattle.onvm_core.specs.Layouts.{same_ring, same_word};
+ghost use Rattle.onvm_core.specs.History.{is_split, latest_look, place_of, popped_from, post_count, posted_on, pushed_on, place_by, split_after};
 
 use crate::layout::Word;
 use crate::place::Place;
 use crate::step::{Act, Item, Step};
 use onvm_base::{BufId, RingId};
 
-// Whether two rings are one.
 pub fn same_ring(one: RingId, other: RingId) -> bool
-    ensures { result ≡ same_ring_is one other }
+    ensures { result ≡ same_ring one other }
 {
     match (one, other) {
         (RingId::Lane(f, p), RingId::Lane(g, q)) => f.0 == g.0 && p == q,
@@ -20,9 +19,8 @@ pub fn same_ring(one: RingId, other: RingId) -> bool
     }
 }
 
-// Whether two words are one.
 pub fn same_word(one: Word, other: Word) -> bool
-    ensures { result ≡ same_word_is one other }
+    ensures { result ≡ same_word one other }
 {
     match (one, other) {
         (Word::Pool { port: p, index: i }, Word::Pool { port: q, index: j }) => p.0 == q.0
@@ -35,8 +33,8 @@ pub fn same_word(one: Word, other: Word) -> bool
 }
 
 // Where a step puts the buffer, if it names it.
-fn puts(step: &Step, buf: BufId) -> Option<Place>
-    ensures { result ≡ puts_by buf.0 step.now.role step.now.act }
+fn place_by(step: &Step, buf: BufId) -> Option<Place>
+    ensures { result ≡ place_by buf.0 step.now.role step.now.act }
 {
     let (named, there) = match &step.act {
         Act::Take(b) => (b, Place::Role(step.role)),
@@ -50,11 +48,11 @@ fn puts(step: &Step, buf: BufId) -> Option<Place>
 
 // Where a buffer is after these steps.
 pub fn place_of(steps: &[Step], buf: BufId) -> Place
-    ensures { result ≡ place_in buf.0 (reverse steps.now) }
+    ensures { result ≡ place_of buf.0 (reverse steps.now) }
 {
     let mut there = Place::Pool;
     for step in steps {
-        if let Some(next) = puts(step, buf) {
+        if let Some(next) = place_by(step, buf) {
             there = next;
         }
     }
@@ -72,9 +70,8 @@ fn split_by(act: &Act, role: u32, was: bool) -> bool
     }
 }
 
-// Whether the role is split after these steps.
 pub fn is_split(steps: &[Step], role: u32) -> bool
-    ensures { result ≡ is_split_after role (reverse steps.now) }
+    ensures { result ≡ is_split role (reverse steps.now) }
 {
     let mut split = false;
     for step in steps {
@@ -85,7 +82,7 @@ pub fn is_split(steps: &[Step], role: u32) -> bool
 
 // The word and the value of a role's latest look.
 pub fn latest_look(steps: &[Step], role: u32) -> Option<(Word, u64)>
-    ensures { result ≡ latest_look_in role (reverse steps.now) }
+    ensures { result ≡ latest_look role (reverse steps.now) }
 {
     let mut latest = None;
     for step in steps {
@@ -100,7 +97,7 @@ pub fn latest_look(steps: &[Step], role: u32) -> Option<(Word, u64)>
 
 // The value of a word's last post, 0 at first.
 pub fn posted_on(steps: &[Step], word: Word) -> u64
-    ensures { result ≡ posted_in word (reverse steps.now) }
+    ensures { result ≡ posted_on word (reverse steps.now) }
 {
     let mut last = 0;
     for step in steps {
@@ -115,7 +112,7 @@ pub fn posted_on(steps: &[Step], word: Word) -> u64
 
 // How many posts a word had.
 pub fn post_count(steps: &[Step], word: Word) -> usize
-    ensures { result ≡ post_count_in word (reverse steps.now) }
+    ensures { result ≡ post_count word (reverse steps.now) }
 {
     let mut count: usize = 0;
     for step in steps {
@@ -129,7 +126,7 @@ pub fn post_count(steps: &[Step], word: Word) -> usize
 }
 
 // How many items were pushed on a ring, and how many were popped from it.
-pub fn moved(steps: &[Step], ring: RingId) -> (usize, usize)
+pub fn ring_counts(steps: &[Step], ring: RingId) -> (usize, usize)
     ensures pushed { result.0 ≡ length (pushed_on ring (reverse steps.now)) }
     ensures popped { result.1 ≡ length (popped_from ring (reverse steps.now)) }
 {

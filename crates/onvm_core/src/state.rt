@@ -1,7 +1,7 @@
 //! The machine that judges steps one after another.
 ghost use Rattle.std.specs.Prelude.{◌≡◌, [], IfOk, OnErr};
 ghost use Rattle.onvm_core.specs.Layouts.{IsBuffer, IsLayout};
-ghost use Rattle.onvm_core.specs.History.{place_of as place_in};
+ghost use Rattle.onvm_core.specs.History.{place_of};
 ghost use Rattle.onvm_core.specs.Lawful.{Allows, IsLawful};
 ghost use Rattle.onvm_core.specs.Machine.{IsJudged};
 ghost use Rattle.onvm_core.specs.Places.{StandsOnce};
@@ -55,7 +55,7 @@ impl State {
     /// Where a buffer is.
     pub fn place(&self, buf: BufId) -> Place
         requires { IsBuffer self.now.layout buf.0 }
-        ensures at { result ≡ place_in buf.0 self.now.steps }
+        ensures at { result ≡ place_of buf.0 self.now.steps }
         ensures once { StandsOnce self.now.layout self.now.steps buf.0 }
     {
         place_of(self.steps.as_slice(), buf)

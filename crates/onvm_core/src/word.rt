@@ -1,23 +1,24 @@
 //! The values of words.
 ghost use Rattle.std.specs.Prelude.{◌≡◌, ◌↔◌, ◌<◌, ◌≤◌, IsTrue, length, reverse};
+ghost use Rattle.onvm_base.specs.declared.limits.TheConstants.{WORD_BITS};
 ghost use Rattle.onvm_core.specs.Layouts.{IsLayout, IsWord};
 ghost use Rattle.onvm_core.specs.History.{content_of, popped_from};
-ghost use Rattle.onvm_core.specs.Words.{is_free as is_free_after, pool_bits, standing, value_of as value_in};
+ghost use Rattle.onvm_core.specs.Words.{is_free, pool_bits, number_in_cell, value_of};
 
 use crate::item::{item_at, number_of};
 use crate::layout::{Layout, Word};
 use crate::place::Place;
 use crate::rings::{is_ring, ring_size};
-use crate::scan::{moved, place_of, posted_on};
+use crate::scan::{place_of, posted_on, ring_counts};
 use crate::step::Step;
-use onvm_base::{BufId, PortId, RingId};
+use onvm_base::{BufId, PortId, RingId, WORD_BITS};
 
-// Whether the layout has the word.
 pub fn is_word(layout: &Layout, word: Word) -> bool
     ensures { IsTrue result ↔ IsWord layout.now word }
 {
     match word {
-        Word::Pool { port, index } => port.0 < layout.ports && 64 * (index as u16) < layout.buffers,
+        Word::Pool { port, index } => port.0 < layout.ports
+            && WORD_BITS * (index as u16) < layout.buffers,
         Word::Cell { ring, at } => is_ring(layout, ring) && at < ring_size(layout, ring),
         Word::Post(feeder) => (feeder as u16) < layout.ports as u16 + layout.transmit as u16,
         Word::Weight(f) => f.0 < layout.functions,
@@ -28,10 +29,10 @@ pub fn is_word(layout: &Layout, word: Word) -> bool
 fn is_free(layout: &Layout, steps: &[Step], port: PortId, index: u8, bit: u16) -> bool
     requires ranges { IsLayout layout.now }
     requires known { IsWord layout.now (Word.Pool port index) }
-    requires within { bit < 64 }
-    ensures { result ≡ is_free_after layout.now (reverse steps.now) port.0 index bit }
+    requires within { bit < WORD_BITS }
+    ensures { result ≡ is_free layout.now (reverse steps.now) port.0 index bit }
 {
-    let at = 64 * index as u16 + bit;
+    let at = WORD_BITS * index as u16 + bit;
     let buf = BufId(port.0 as u16 * layout.buffers + at);
     at < layout.buffers && matches!(place_of(steps, buf), Place::Pool)
 }
@@ -44,7 +45,7 @@ fn pool_value(layout: &Layout, steps: &[Step], port: PortId, index: u8) -> u64
     ensures { result ≡ pool_bits layout.now (reverse steps.now) port.0 index }
 {
     let mut value: u64 = 0;
-    for bit in 0..64 {
+    for bit in 0..WORD_BITS {
         if is_free(layout, steps, port, index, bit) {
             value += 1 << bit;
         }
@@ -55,10 +56,10 @@ fn pool_value(layout: &Layout, steps: &[Step], port: PortId, index: u8) -> u64
 // What stands in a cell.
 fn cell_value(steps: &[Step], ring: RingId, size: u16, at: u16) -> u64
     requires { 1 ≤ size }
-    ensures { result ≡ standing size at
+    ensures { result ≡ number_in_cell size at
         (length (popped_from ring (reverse steps.now))) (content_of ring (reverse steps.now)) }
 {
-    let (pushed, popped) = moved(steps, ring);
+    let (pushed, popped) = ring_counts(steps, ring);
     for k in popped..pushed {
         if k % size as usize == at as usize {
             return match item_at(steps, ring, k) {
@@ -70,11 +71,10 @@ fn cell_value(steps: &[Step], ring: RingId, size: u16, at: u16) -> u64
     0
 }
 
-// The value of a word.
 pub fn value_of(layout: &Layout, steps: &[Step], word: Word) -> u64
     requires ranges { IsLayout layout.now }
     requires known { IsWord layout.now word }
-    ensures { result ≡ value_in layout.now (reverse steps.now) word }
+    ensures { result ≡ value_of layout.now (reverse steps.now) word }
 {
     match word {
         Word::Pool { port, index } => pool_value(layout, steps, port, index),

@@ -1,3 +1,4 @@
 pub mod Bytes
 pub mod Deeds
+pub mod Moved
 pub mod Names

@@ -2,6 +2,9 @@ pub mod Deeds
 pub mod Files
 pub mod Given
 pub mod Memory
+pub mod Moved
 pub mod Names
 pub mod Story
+pub mod Tally
+pub mod Target
 pub mod Written

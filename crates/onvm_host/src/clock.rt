@@ -38,7 +38,7 @@ impl Clock for StepClock {
     }
 }
 
-/// What a role passes before each of its passes.
+/// What a role is to pass before each of its passes. No code calls it yet.
 pub trait Gate: Sync {
     fn turn(&self, role: u32, pass: u64);
 }

@@ -1,10 +1,11 @@
 //! A host over real files and standard output. It tells nothing of content.
-ghost use Rattle.std.specs.Prelude.{◌≡◌, ◌↔◌, ◌<◌, ◌∷◌, ◌++◌, ⊤, ℕ, List, [], Option, None, Ok, IfOk, length, option_and_then};
+ghost use Rattle.std.specs.Prelude.{◌≡◌, ◌↔◌, ◌<◌, ◌∷◌, ◌++◌, ⊤, ℕ, List, [], Option, None, Ok, IfOk, IsTrue, length};
 ghost use Rattle.std.specs.Io.{ReadsAtMost, WritesAtMost};
 ghost use Rattle.std.specs.Io.KnownBytes.{ReadConsumes, WriteAppends};
 ghost use Rattle.std.specs.IoError.{error_kind};
 ghost use Rattle.std.specs.Result.{result_ok};
 ghost use Rattle.onvm_host.specs.Story.{amounts_of, deeds_of};
+ghost use Rattle.onvm_host.specs.Target.{IsStandardOutput, IsTargetOf};
 
 use crate::fault::HostFault;
 use crate::name::copy_of;
@@ -51,39 +52,45 @@ impl<F: Read + Drop> Source for FileInput<F> {
     }
 }
 
-/// A file that is still to be made, or was.
+/// Where the bytes of an output go. Before it was made they go nowhere.
 #[derive(Drop)]
-struct Target<F> {
-    file: Option<F>,
+enum Target<F, P> {
+    Unmade,
+    File(F),
+    Standard(P),
 }
 
-impl<F: Write + Drop> Write for Target<F> {
-    ghost contents = { λ target. option_and_then F.contents target.file };
+impl<F: Write + Drop, P: Print + Drop> Write for Target<F, P> {
+    ghost use Rattle.onvm_host.specs.Target.{contents_of};
+
+    ghost contents = { contents_of F.contents };
 
     fn write(&mut self, piece: &[u8]) -> io::Result<usize> {
-        match &mut self.file {
-            Some(file) => file.write(piece),
-            None => Ok(0),
+        match self {
+            Target::Unmade => Ok(0),
+            Target::File(file) => file.write(piece),
+            Target::Standard(rt) => io::writer(rt).write(piece),
         }
     }
 
     fn flush(&mut self) -> io::Result<()> {
-        match &mut self.file {
-            Some(file) => file.flush(),
-            None => Ok(()),
+        match self {
+            Target::Unmade => Ok(()),
+            Target::File(file) => file.flush(),
+            Target::Standard(rt) => io::writer(rt).flush(),
         }
     }
 }
 
-/// Writes a file, many pieces at a time.
+/// Writes a file or standard output, many pieces at a time.
 #[derive(Drop)]
-pub struct FileOutput<F: Write + Drop> {
-    writer: BufWriter<Target<F>>,
+pub struct FileOutput<F: Write + Drop, P: Print + Drop> {
+    writer: BufWriter<Target<F, P>>,
     name: Name,
     puts: Amounts,
 }
 
-impl<F: Write + Drop> Sink for FileOutput<F> {
+impl<F: Write + Drop, P: Print + Drop> Sink for FileOutput<F, P> {
     ghost held = { λ _. None };
 
     ghost name = { λ output. output.name };
@@ -96,8 +103,8 @@ impl<F: Write + Drop> Sink for FileOutput<F> {
         ensures bound { WritesAtMost result piece.now }
         ensures some { IfOk result (λ n. 0 < length piece.now → 0 < n) }
         ensures bytes { WriteAppends
-            (⟦<BufWriter<Target<F>> as Write>⟧.contents self.old.writer)
-            (⟦<BufWriter<Target<F>> as Write>⟧.contents self.new.writer) result piece.now }
+            (⟦<BufWriter<Target<F, P>> as Write>⟧.contents self.old.writer)
+            (⟦<BufWriter<Target<F, P>> as Write>⟧.contents self.new.writer) result piece.now }
         ensures named { self.new.name ≡ self.old.name }
         ensures told { amounts_of self.new.puts ≡ amounts_of self.old.puts ++ result_ok result ∷ [] }
     {
@@ -106,7 +113,8 @@ impl<F: Write + Drop> Sink for FileOutput<F> {
     }
 }
 
-/// A host over the files and the standard output of a runtime.
+/// A host over the files and the standard output of a runtime. What is written under a name of
+/// standard output goes there, behind what was written and said before.
 #[derive(Drop)]
 pub struct FileHost<R> {
     rt: R,
@@ -125,6 +133,24 @@ impl<R> FileHost<R> {
     }
 }
 
+// What a new output writes to. Standard output is not opened by its name, since that would write at
+// a place of its own, and what is said would overwrite it.
+fn target_of<R: Files + Print + Copy>(rt: &R, name: &str) -> io::Result<Target<R::File, R>>
+    ensures { IfOk result (λ target. IsTargetOf name.now rt.now target) }
+{
+    if is_standard_output(name) {
+        return Ok(Target::Standard(*rt));
+    }
+    Ok(Target::File(File::create(rt, name)?))
+}
+
+// Whether the system has the process's standard output under this name.
+fn is_standard_output(name: &str) -> bool
+    ensures { IsTrue result ↔ IsStandardOutput name.now }
+{
+    matches!(name, "/dev/stdout" | "/dev/fd/1" | "/proc/self/fd/1")
+}
+
 // Why a file was not opened or made.
 fn fault_of(error: io::Error) -> HostFault
     ensures { result ≡ HostFault.Memory ↔ error_kind error ≡ ErrorKind.OutOfMemory }
@@ -135,14 +161,14 @@ fn fault_of(error: io::Error) -> HostFault
     }
 }
 
-impl<R: Files + Print + AllocGlobal> Host for FileHost<R>
+impl<R: Files + Print + AllocGlobal + Copy> Host for FileHost<R>
 where
     R::File: Send,
     R: Drop,
 {
     type Input = FileInput<R::File>;
 
-    type Output = FileOutput<R::File>;
+    type Output = FileOutput<R::File, R>;
 
     ghost files = { λ _. None };
 
@@ -175,16 +201,15 @@ where
         }
     }
 
-    fn create_output(&mut self, name: &str) -> Result<FileOutput<R::File>, HostFault> {
+    fn create_output(&mut self, name: &str) -> Result<FileOutput<R::File, R>, HostFault> {
         // All memory is taken first, so that want of it leaves an old file as it was.
         let alloc = self.rt.alloc();
         let copy = copy_of(alloc, name)?;
-        let target = Target { file: None };
-        let Ok(mut writer) = BufWriter::with_capacity(alloc, BUFFER_BYTES, target) else {
+        let Ok(mut writer) = BufWriter::with_capacity(alloc, BUFFER_BYTES, Target::Unmade) else {
             return Err(HostFault::Memory);
         };
-        match File::create(&self.rt, name) {
-            Ok(file) => writer.get_mut().file = Some(file),
+        match target_of(&self.rt, name) {
+            Ok(target) => *writer.get_mut() = target,
             Err(error) => {
                 let fault = fault_of(error);
                 if fault == HostFault::Failed {
@@ -205,7 +230,7 @@ where
         self.story.shut(&input.name, &input.takes);
     }
 
-    fn keep(&mut self, mut output: FileOutput<R::File>) -> Result<(), Failed> {
+    fn keep(&mut self, mut output: FileOutput<R::File, R>) -> Result<(), Failed> {
         let answer = match output.writer.flush() {
             Ok(()) => Ok(()),
             Err(_) => Err(Failed),

@@ -3,7 +3,7 @@
 //! A *source* gives bytes, a *sink* takes them, and a *host* has files and a place to say things.
 //! A host's *deeds* are its calls with what came of each, and some of them are *faults*. Each may
 //! *tell* its content, and where it does, contracts say which bytes came and went. A *clock*
-//! answers moments and spans in nanoseconds. A *gate* is called before each pass of a role.
+//! answers moments and spans in nanoseconds. A *gate* is for a role to pass before each of its passes.
 #![tactic(auto)]
 
 mod clock;

@@ -4,6 +4,7 @@ use crate::{
     have_distinct_names,
 };
 use onvm_base::{Failed, ListOf, Text};
+use std::process;
 use std::test::Fail;
 
 fn text(rt: HostRuntime, bytes: &[u8]) -> Result<Text, Fail> {
@@ -75,7 +76,12 @@ fn a_host_in_memory_gives_what_was_written(rt: HostRuntime) -> Result<(), Fail> 
 fn a_real_file_gives_what_was_written(rt: HostRuntime) -> Result<(), Fail> {
     let mut host = FileHost::make(rt);
     let mut into = [0u8; 4];
-    let name = "/tmp/onvm_host_a_real_file_gives_what_was_written";
+    // Two runs of this test at once, as in two checkouts, have two files.
+    let number = process::id(rt.process());
+    let name = format!(in rt.alloc();
+        "/tmp/onvm_host_a_real_file_gives_what_was_written_{number}"
+    )?;
+    let name = name.as_str();
     assert_eq!(rt;
         write_and_read(&mut host, name, &[7, 8, 9, 10, 11], &mut into)?,
         (5, 4)
@@ -87,6 +93,18 @@ fn a_real_file_gives_what_was_written(rt: HostRuntime) -> Result<(), Fail> {
     assert_eq!(rt; host.open_input(name).err(), Some(HostFault::Failed));
     assert_eq!(rt; host.create_output("/tmp").err(), Some(HostFault::Failed));
     assert_eq!(rt; host.say(b"onvm_host\n"), Ok(10));
+    Ok(())
+}
+
+// The system has the same standard output under each of these names.
+#[test]
+fn standard_output_is_an_output(rt: HostRuntime) -> Result<(), Fail> {
+    let mut host = FileHost::make(rt);
+    for name in ["/dev/stdout", "/dev/fd/1", "/proc/self/fd/1"] {
+        let mut output = host.create_output(name)?;
+        assert_eq!(rt; output.put(b"onvm_host\n"), Ok(10));
+        assert_eq!(rt; host.keep(output), Ok(()));
+    }
     Ok(())
 }
 

@@ -3,8 +3,8 @@ use Rattle.std.proofs.Common.{◌≡◌, ◌∙◌, sym, ap, ℕ, Bool, false, �
 use Rattle.onvm_base.specs.declared.ids.PortId.{PortId}
 use Rattle.onvm_base.specs.declared.rules.Prefix.{Prefix}
 use Rattle.onvm_base.specs.declared.rules.Tests.{Tests}
-use Rattle.onvm_packet.specs.FlowKeys.{flow_ends_of, flow_key_of}
-use Rattle.onvm_packet.specs.Holding.{covers_ipv4, covers_ipv6, do_hold, has_source, has_source_port, has_target, has_target_port, holds_if_asked, is_part, protocol_of}
+use Rattle.onvm_packet.specs.FlowKeys.{flow_key_of}
+use Rattle.onvm_packet.specs.Holding.{covers_ipv4, covers_ipv6, do_hold, has_source_port, has_target_port, holds_if_asked, is_part}
 use Rattle.onvm_packet.specs.declared.flow_key.FlowEnds.{FlowEnds}
 use Rattle.onvm_packet.specs.declared.flow_key.FlowEnds.TheVariants as ends
 use Rattle.onvm_packet.specs.declared.flow_key.FlowKey.{FlowKey}

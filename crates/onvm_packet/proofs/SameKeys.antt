@@ -1,5 +1,5 @@
 -- Keys that compare as equal are the same.
-use Rattle.std.proofs.Common.{◌≡◌, ◌∙◌, sym, ap, ℕ, Bool, true, nat_eq, ◌&&◌, Option, Some, None, refl}
+use Rattle.std.proofs.Common.{◌≡◌, sym, ap, ℕ, Bool, true, nat_eq, ◌&&◌, Option, Some, None, refl}
 use Rattle.std.proofs.lemmas.Bool.{and_parts, eqb-true, true≢false}
 use Rattle.std.specs.Option.{option_eq}
 use Rattle.onvm_packet.specs.contracts.flow_key.FlowEndsPartialEq.TheImpl as ends_impl
@@ -48,8 +48,10 @@ same_key key other equal =
     let vlan = and_parts (option_eq nat_eq key.vlan other.vlan) _ port.1 in
     let ethertype = and_parts (option_eq nat_eq key.ethertype other.ethertype) _ vlan.1 in
     let ends = and_parts (ends_impl.ghosts.eq key.ends other.ends) (option_eq pair_eq key.ports other.ports) ethertype.1 in
-    rw (eqb-true key.port other.port port.0,
-    same_option nat_eq eqb-true key.vlan other.vlan vlan.0,
-    same_option nat_eq eqb-true key.ethertype other.ethertype ethertype.0,
-    same_ends key.ends other.ends ends.0,
-    same_option pair_eq same_pair key.ports other.ports ends.1) refl
+    rw (
+      eqb-true key.port other.port port.0,
+      same_option nat_eq eqb-true key.vlan other.vlan vlan.0,
+      same_option nat_eq eqb-true key.ethertype other.ethertype ethertype.0,
+      same_ends key.ends other.ends ends.0,
+      same_option pair_eq same_pair key.ports other.ports ends.1,
+    ) refl

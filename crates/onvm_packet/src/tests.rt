@@ -1,7 +1,7 @@
 //! Frames that were spelled by hand or by another program.
 
 mod edits;
-mod frames;
 mod flow_key;
+mod frames;
 mod heads;
 mod holding;

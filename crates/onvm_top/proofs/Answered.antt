@@ -1,66 +1,56 @@
 -- What a status tells, by cases, and that no two statuses tell the same.
-use Rattle.std.proofs.Common.{◌≡◌, ◌≢◌, ◌∙◌, sym, ap, subst, refl, inl, inr, ◌⊎◌, ℕ, List, [], ◌∷◌, ◌++◌, length, Option, Some, arith}
-use Rattle.std.proofs.lemmas.List.{length-append}
-use Rattle.std.proofs.lemmas.List.Sums.{sum_by-append}
+use Rattle.std.proofs.Common.{◌≡◌, ◌≢◌, ◌∙◌, sym, ap, subst, refl, inl, inr, ◌⊎◌, ℕ, ◌<◌, List, [], ◌∷◌, Option, Some}
 use Rattle.onvm_base.specs.declared.frame.Frame.{Frame}
 use Rattle.onvm_base.specs.declared.status.Status.{Status}
 use Rattle.onvm_base.specs.declared.status.Status.TheVariants.{Done, Words, Plan, Capture, Read, Write, Memory}
-use Rattle.onvm_host.specs.Deeds.{Deed}
+use Rattle.onvm_host.specs.Deeds.{Deed, faults_of}
 use Rattle.onvm_host.specs.Files.{Entries, file_of}
 use Rattle.pcap_in.specs.Classic.{IsCapture}
 use Rattle.pcap_in.proofs.Faults.{no_fault, capture_first}
-use Rattle.onvm_top.specs.Answers.{FailsToWrite, HasBadCapture, HasOtherChain, IsBadCapture, IsChain, IsGoodCapture, IsNoCommand, IsOtherChain, IsUnlessStopped}
+use Rattle.onvm_top.specs.Answers.{IsTrueStatus, IsBadCapture, IsChain, IsGoodCapture, IsNoCommand, IsOtherChain, IsUnlessStopped}
 use Rattle.onvm_top.specs.Command.{Command, IsCommand}
 use Rattle.onvm_top.specs.Fault.{status_of}
-use Rattle.onvm_top.specs.Limits.{bytes_of, IsWithinLimits, PassesLimit}
-use Rattle.onvm_top.specs.Replay.{IsDone, IsReplayed}
-use Rattle.onvm_top.specs.Stops.{IsStopped}
-use Rattle.onvm_top.specs.Story.{CannotReadChain}
+use Rattle.ingress.specs.Limits.{PassesLimit}
+use Rattle.ingress.proofs.Captured.{within_first}
+use Rattle.onvm_top.specs.Replay.{IsReplayed}
+use Rattle.onvm_top.specs.Stops.{CannotReadSound, IsStopped}
+use Rattle.onvm_top.specs.Story.{Adds, CannotReadChain, IsStory, ReadsChain, Then}
 use Rattle.onvm_top.specs.declared.fault.Fault.{Fault}
-
--- what a status tells of words and files
-abbrev pub IsAnswer : List (List ℕ) → Option Entries → Option Entries → Status → Type 0
-IsAnswer words told told_now Done = IsDone words told told_now
-IsAnswer words told told_now Words = IsNoCommand words × (told_now ≡ told)
-IsAnswer words told told_now Plan = HasOtherChain words told × (told_now ≡ told)
-IsAnswer words told told_now Capture = HasBadCapture words told × (told_now ≡ told)
-IsAnswer words told told_now Read = ((command : Command) × IsCommand words command) × (told_now ≡ told)
-IsAnswer words told told_now Write = FailsToWrite words told told_now
-IsAnswer words told told_now Memory = ((command : Command) × IsCommand words command) × (told_now ≡ told)
+use Rattle.onvm_top.proofs.Story.{faults_of-Adds, faults_of-Read, faults_of-Write}
 
 -- what a fault that stops a run tells is what its status tells
-pub IsAnswer-stopped : (words : List (List ℕ)) (told told_now : Option Entries) (deeds : List Deed) (fault : Fault)
-    → IsStopped words told told_now deeds fault → IsAnswer words told told_now (status_of fault)
-IsAnswer-stopped words told told_now deeds fault (inl at) =
-    let P : Fault → Type 0 = λ f. IsAnswer words told told_now (status_of f) in
+pub IsTrueStatus-stopped : (words : List (List ℕ)) (told told_now : Option Entries) (deeds : List Deed) (fault : Fault)
+    → IsStopped words told told_now deeds fault → IsTrueStatus words told told_now (status_of fault)
+IsTrueStatus-stopped words told told_now deeds fault (inl at) =
+    let P : Fault → Type 0 = λ f. IsTrueStatus words told told_now (status_of f) in
     subst P (sym at.0) (at.1, at.2)
-IsAnswer-stopped words told told_now deeds fault (inr (inl (command, is, same, inl plan))) =
-    let P : Fault → Type 0 = λ f. IsAnswer words told told_now (status_of f) in
+IsTrueStatus-stopped words told told_now deeds fault (inr (inl (command, is, same, inl plan))) =
+    let P : Fault → Type 0 = λ f. IsTrueStatus words told told_now (status_of f) in
     subst P (sym plan.0) ((command, is, plan.2), same)
-IsAnswer-stopped words told told_now deeds fault (inr (inl (command, is, same, inr (inl read)))) =
-    let P : Fault → Type 0 = λ f. IsAnswer words told told_now (status_of f) in
+IsTrueStatus-stopped words told told_now deeds fault (inr (inl (command, is, same, inr (inl read)))) =
+    let P : Fault → Type 0 = λ f. IsTrueStatus words told told_now (status_of f) in
     subst P (sym read.0) ((command, is), same)
-IsAnswer-stopped words told told_now deeds fault (inr (inl (command, is, same, inr (inr memory)))) =
-    let P : Fault → Type 0 = λ f. IsAnswer words told told_now (status_of f) in
+IsTrueStatus-stopped words told told_now deeds fault (inr (inl (command, is, same, inr (inr memory)))) =
+    let P : Fault → Type 0 = λ f. IsTrueStatus words told told_now (status_of f) in
     subst P (sym memory.0) ((command, is), same)
-IsAnswer-stopped words told told_now deeds fault
+IsTrueStatus-stopped words told told_now deeds fault
     (inr (inr (inl (command, is, same, chain, (first, rest, split, read, inl broken))))) =
-    let P : Fault → Type 0 = λ f. IsAnswer words told told_now (status_of f) in
+    let P : Fault → Type 0 = λ f. IsTrueStatus words told told_now (status_of f) in
     subst P (sym broken.1)
     ((command, is, λ files told_is. (chain files told_is, inl (broken.0, broken.3 files told_is))), same)
-IsAnswer-stopped words told told_now deeds fault
+IsTrueStatus-stopped words told told_now deeds fault
     (inr (inr (inl (command, is, same, chain, (first, rest, split, read, inr (inl large)))))) =
-    let P : Fault → Type 0 = λ f. IsAnswer words told told_now (status_of f) in
+    let P : Fault → Type 0 = λ f. IsTrueStatus words told told_now (status_of f) in
     subst P (sym large.0) ((command, is, λ files told_is. (chain files told_is, inr (large.2 files told_is))), same)
-IsAnswer-stopped words told told_now deeds fault
+IsTrueStatus-stopped words told told_now deeds fault
     (inr (inr (inl (command, is, same, chain, (first, rest, split, read, inr (inr (inl failed))))))) =
-    let P : Fault → Type 0 = λ f. IsAnswer words told told_now (status_of f) in
+    let P : Fault → Type 0 = λ f. IsTrueStatus words told told_now (status_of f) in
     subst P (sym failed.0) ((command, is), same)
-IsAnswer-stopped words told told_now deeds fault
+IsTrueStatus-stopped words told told_now deeds fault
     (inr (inr (inl (command, is, same, chain, (first, rest, split, read, inr (inr (inr memory))))))) =
-    let P : Fault → Type 0 = λ f. IsAnswer words told told_now (status_of f) in
+    let P : Fault → Type 0 = λ f. IsTrueStatus words told told_now (status_of f) in
     subst P (sym memory.0) ((command, is), same)
-IsAnswer-stopped words told told_now deeds fault
+IsTrueStatus-stopped words told told_now deeds fault
     (inr (inr (inr (
       command,
       is,
@@ -70,10 +60,10 @@ IsAnswer-stopped words told told_now deeds fault
       good,
       (first, rest, split, read, (next, last, cut, taken, inl create)),
     )))) =
-    let P : Fault → Type 0 = λ f. IsAnswer words told told_now (status_of f) in
+    let P : Fault → Type 0 = λ f. IsTrueStatus words told told_now (status_of f) in
     subst P (sym create.0)
     (command, is, frames, λ files told_is. (chain files told_is, good files told_is, inl (create.2 ∙ told_is)))
-IsAnswer-stopped words told told_now deeds fault
+IsTrueStatus-stopped words told told_now deeds fault
     (inr (inr (inr (
       command,
       is,
@@ -83,10 +73,10 @@ IsAnswer-stopped words told told_now deeds fault
       good,
       (first, rest, split, read, (next, last, cut, taken, inr (inl write))),
     )))) =
-    let P : Fault → Type 0 = λ f. IsAnswer words told told_now (status_of f) in
+    let P : Fault → Type 0 = λ f. IsTrueStatus words told told_now (status_of f) in
     subst P (sym write.0)
     (command, is, frames, λ files told_is. (chain files told_is, good files told_is, inr (write.2 files told_is)))
-IsAnswer-stopped words told told_now deeds fault
+IsTrueStatus-stopped words told told_now deeds fault
     (inr (inr (inr (
       command,
       is,
@@ -96,7 +86,7 @@ IsAnswer-stopped words told told_now deeds fault
       good,
       (first, rest, split, read, (next, last, cut, taken, inr (inr memory))),
     )))) =
-    let P : Fault → Type 0 = λ f. IsAnswer words told told_now (status_of f) in
+    let P : Fault → Type 0 = λ f. IsTrueStatus words told told_now (status_of f) in
     subst P (sym memory.0) ((command, is), memory.2)
 
 -- words are one command
@@ -118,17 +108,6 @@ chain_or_other words a b files is other chain (bytes, file, differs) =
     sym file ∙ ap (λ (n : List ℕ). file_of n files) (same_chain words b a other is) in
     let there = same ∙ chain in
     differs (cc)
-
--- the first frames of some that a port takes are taken
-pub within_first : (frames first rest : List Frame) → frames ≡ first ++ rest → IsWithinLimits frames
-    → IsWithinLimits first
-within_first frames first rest split within =
-    let count = ap (length {A = Frame}) split ∙ length-append first rest in
-    let bytes = ap bytes_of split ∙ sum_by-append (λ (frame : Frame). length frame.packet) first rest in
-    record {
-      few = omega (arith, count, within.few);
-      small = omega (arith, bytes, within.small);
-    }
 
 -- a text is not the capture of frames that a port takes and a bad one
 good_or_bad : (name : List ℕ) (files : Entries) (frames : List Frame)
@@ -160,7 +139,7 @@ other_capture words a b files frames is other good bad =
 
 -- words that are no command are told
 pub no_command : (words : List (List ℕ)) (told told_now : Option Entries) (answer : Status)
-    → IsAnswer words told told_now answer → IsNoCommand words → answer ≡ Words
+    → IsTrueStatus words told told_now answer → IsNoCommand words → answer ≡ Words
 no_command words told told_now Done tells none = absurd (none tells.0 tells.1)
 no_command words told told_now Words tells none = refl
 no_command words told told_now Plan tells none = absurd (none tells.0.0 tells.0.1)
@@ -171,7 +150,7 @@ no_command words told told_now Memory tells none = absurd (none tells.0.0 tells.
 
 -- another chain file is told
 pub other_chain : (words : List (List ℕ)) (told told_now : Option Entries) (answer : Status)
-    → IsAnswer words told told_now answer → (command : Command) → IsCommand words command
+    → IsTrueStatus words told told_now answer → (command : Command) → IsCommand words command
     → (files : Entries) → told ≡ Some files → IsOtherChain command.chain files → IsUnlessStopped Plan answer
 other_chain words told told_now Done tells command is files told_is other =
     absurd (chain_or_other words tells.0 command files tells.1 is (tells.2 files told_is).chain other)
@@ -186,7 +165,7 @@ other_chain words told told_now Memory tells command is files told_is other = in
 
 -- a bad capture is told
 pub bad_capture : (words : List (List ℕ)) (told told_now : Option Entries) (answer : Status)
-    → IsAnswer words told told_now answer → (command : Command) → IsCommand words command
+    → IsTrueStatus words told told_now answer → (command : Command) → IsCommand words command
     → (files : Entries) → told ≡ Some files → IsChain command.chain files → IsBadCapture command.capture files
     → IsUnlessStopped Capture answer
 bad_capture words told told_now Done tells command is files told_is chain bad =
@@ -204,7 +183,7 @@ bad_capture words told told_now Memory tells command is files told_is chain bad 
 
 -- where nothing is wrong and nothing failed, the run was done
 pub complete : (words : List (List ℕ)) (told told_now : Option Entries) (answer : Status)
-    → IsAnswer words told told_now answer → (command : Command) → IsCommand words command
+    → IsTrueStatus words told told_now answer → (command : Command) → IsCommand words command
     → (files : Entries) → told ≡ Some files → IsChain command.chain files
     → (frames : List Frame) → IsGoodCapture command.capture files frames → answer ≢ Read → answer ≢ Write
     → (answer ≡ Done) ⊎ (answer ≡ Memory)
@@ -220,6 +199,19 @@ complete words told told_now Read tells command is files told_is chain frames go
 complete words told told_now Write tells command is files told_is chain frames good unread unwritten =
     absurd (unwritten refl)
 complete words told told_now Memory tells command is files told_is chain frames good unread unwritten = inr refl
+
+-- and a run without a fault among its calls told neither Read nor Write
+pub complete_calmly : (words : List (List ℕ)) (told told_now : Option Entries) (answer : Status)
+    (before now : List Deed) → IsTrueStatus words told told_now answer → Adds before now (IsStory words answer)
+    → ¬ (faults_of before < faults_of now) → (command : Command) → IsCommand words command
+    → (files : Entries) → told ≡ Some files → IsChain command.chain files
+    → (frames : List Frame) → IsGoodCapture command.capture files frames
+    → (answer ≡ Done) ⊎ (answer ≡ Memory)
+complete_calmly words told told_now answer before now tells story calm command is files told_is chain frames good =
+    let Story : Status → Type 0 = λ s. Adds before now (IsStory words s) in
+    complete words told told_now answer tells command is files told_is chain frames good
+    (λ read. calm (faults_of-Adds before now (IsStory words Read) (faults_of-Read words) (subst Story read story)))
+    (λ write. calm (faults_of-Adds before now (IsStory words Write) (faults_of-Write words) (subst Story write story)))
 
 -- where the chain file is another and Read is told, the chain file could not be read
 pub other_chain_Read : (words : List (List ℕ)) (told told_now : Option Entries) (deeds : List Deed) (fault : Fault)
@@ -244,9 +236,62 @@ other_chain_Read words told told_now deeds fault
     (inr (inr (inr (first, first_is, chain, frames, within, good, calls)))) read command is files told_is other =
     absurd (chain_or_other words first command files first_is is (chain files told_is) other)
 
+-- where Read is told, an input could not be read, and of the capture no fault and no limit was behind it
+pub unread : (words : List (List ℕ)) (told told_now : Option Entries) (deeds : List Deed) (fault : Fault)
+    → IsStopped words told told_now deeds fault → status_of fault ≡ Read → (command : Command) → IsCommand words command
+    → (files : Entries) → told ≡ Some files
+    → CannotReadChain command.chain deeds
+    ⊎ Then (ReadsChain command.chain) (λ calls. CannotReadSound command.capture calls files) deeds
+unread words told told_now deeds fault (inl at) read command is files told_is =
+    let clash : Words ≡ Read = sym (ap status_of at.0) ∙ read in cc
+unread words told told_now deeds fault (inr (inl (first, first_is, same, inl plan))) read command is files told_is =
+    let clash : Plan ≡ Read = sym (ap status_of plan.0) ∙ read in cc
+unread words told told_now deeds fault
+    (inr (inl (first, first_is, same, inr (inl failed)))) read command is files told_is =
+    let P : List ℕ → Type 0 = λ n. CannotReadChain n deeds in
+    inl (subst P (same_chain words first command first_is is) failed.1)
+unread words told told_now deeds fault
+    (inr (inl (first, first_is, same, inr (inr memory)))) read command is files told_is =
+    let clash : Memory ≡ Read = sym (ap status_of memory.0) ∙ read in cc
+unread words told told_now deeds fault
+    (inr (inr (inl (first, first_is, same, chain, (calls, more, split, reads, inl broken))))) read command is files told_is =
+    let clash : Capture ≡ Read = sym (ap status_of broken.1) ∙ read in cc
+unread words told told_now deeds fault
+    (inr (inr (inl (first, first_is, same, chain, (calls, more, split, reads, inr (inl large))))))
+    read command is files told_is =
+    let clash : Capture ≡ Read = sym (ap status_of large.0) ∙ read in cc
+unread words told told_now deeds fault
+    (inr (inr (inl (first, first_is, same, chain, (calls, more, split, reads, inr (inr (inl failed)))))))
+    read command is files told_is =
+    let P : List ℕ → Type 0 = λ n. ReadsChain n calls in
+    let Q : List ℕ → Type 0 = λ n. CannotReadSound n more files in
+    inr (
+      calls,
+      more,
+      split,
+      subst P (same_chain words first command first_is is) reads,
+      subst Q (same_capture words first command first_is is) (failed.2 files told_is),
+    )
+unread words told told_now deeds fault
+    (inr (inr (inl (first, first_is, same, chain, (calls, more, split, reads, inr (inr (inr memory)))))))
+    read command is files told_is =
+    let clash : Memory ≡ Read = sym (ap status_of memory.0) ∙ read in cc
+unread words told told_now deeds fault
+    (inr (inr (inr (first, first_is, chain, frames, within, good, (calls, more, split, reads, (next, last, cut, taken, inl create))))))
+    read command is files told_is =
+    let clash : Write ≡ Read = sym (ap status_of create.0) ∙ read in cc
+unread words told told_now deeds fault
+    (inr (inr (inr (first, first_is, chain, frames, within, good, (calls, more, split, reads, (next, last, cut, taken, inr (inl write)))))))
+    read command is files told_is =
+    let clash : Write ≡ Read = sym (ap status_of write.0) ∙ read in cc
+unread words told told_now deeds fault
+    (inr (inr (inr (first, first_is, chain, frames, within, good, (calls, more, split, reads, (next, last, cut, taken, inr (inr memory)))))))
+    read command is files told_is =
+    let clash : Memory ≡ Read = sym (ap status_of memory.0) ∙ read in cc
+
 -- but where it was done or writing failed, no file changed
 pub none_made : (words : List (List ℕ)) (told told_now : Option Entries) (answer : Status)
-    → IsAnswer words told told_now answer → answer ≢ Done → answer ≢ Write → told_now ≡ told
+    → IsTrueStatus words told told_now answer → answer ≢ Done → answer ≢ Write → told_now ≡ told
 none_made words told told_now Done tells undone unwritten = absurd (undone refl)
 none_made words told told_now Words tells undone unwritten = tells.1
 none_made words told told_now Plan tells undone unwritten = tells.1

@@ -5,8 +5,8 @@ use Rattle.pcap_in.specs.Faulty.{IsCaptureUpTo}
 use Rattle.pcap_in.specs.declared.pull.PcapFault.{PcapFault}
 use Rattle.pcap_in.proofs.Faults.{fault_once, up_to_first}
 use Rattle.onvm_top.specs.Answers.{IsFaultyCapture, IsLargeCapture}
-use Rattle.onvm_top.specs.Limits.{PassesLimit}
-use Rattle.onvm_top.proofs.Answered.{within_first}
+use Rattle.ingress.specs.Limits.{PassesLimit}
+use Rattle.ingress.proofs.Captured.{within_first}
 
 -- a file has one fault
 pub one_fault : (name : List ℕ) (files : Entries) (fault other : PcapFault) → IsFaultyCapture name files fault

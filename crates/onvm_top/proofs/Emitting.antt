@@ -4,8 +4,8 @@ use Rattle.std.specs.List.{flat_map}
 use Rattle.std.proofs.lemmas.Grind.{flat_map-append}
 use Rattle.std.proofs.lemmas.List.{flat_map_more, take_more, take_all, drop_more, take-append-drop}
 use Rattle.onvm_host.specs.Deeds.{Amounts}
-use Rattle.onvm_top.specs.Moved.{PutsAll, PutsPart}
-use Rattle.onvm_top.proofs.Moved.{PutsAll-append, PutsPart-first, PutsPart-second}
+use Rattle.onvm_top.specs.Put.{PutsAll, PutsPart}
+use Rattle.onvm_top.proofs.Put.{PutsAll-append, PutsPart-first, PutsPart-second}
 
 -- after a head and the pieces of some items, the next item's piece
 pub PutsAll-flat_map_more : {X : Type 0} (a b c : Option (List ℕ)) (p q r : Amounts) (head : List ℕ)

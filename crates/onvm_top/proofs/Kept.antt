@@ -7,10 +7,11 @@ use Rattle.std.proofs.lemmas.List.{length-append}
 use Rattle.std.proofs.lemmas.Slice.Eq.{bytes_eq-Decides}
 use Rattle.onvm_host.specs.Deeds.{Amounts, Created, Deed, Kept, KeepFailed, kept_or_failed}
 use Rattle.onvm_host.specs.Files.{Entries, file_of, kept_files, put_file}
-use Rattle.onvm_top.specs.Moved.{AppendsPart, Moved, PutsAll, PutsPart}
+use Rattle.onvm_host.specs.Moved.{Moved}
+use Rattle.onvm_top.specs.Put.{AppendsPart, PutsAll, PutsPart}
 use Rattle.onvm_top.specs.Replay.{OnlyChanges}
 use Rattle.onvm_top.specs.Story.{Adds, CannotFinish, IsCutShort}
-use Rattle.onvm_top.proofs.Known.{Appends-to_empty}
+use Rattle.onvm_host.proofs.Bytes.{Appends-to_empty}
 
 file_of-same : (name bytes : List ℕ) (files : Entries) → file_of name ((name, bytes) ∷ files) ≡ Some bytes
 file_of-same name bytes files =

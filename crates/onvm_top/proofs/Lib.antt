@@ -1,10 +1,7 @@
 pub mod Answered
-pub mod Captured
 pub mod Causes
 pub mod Emitting
-pub mod Fed
 pub mod Kept
-pub mod Known
-pub mod Moved
+pub mod Put
 pub mod Sent
 pub mod Story

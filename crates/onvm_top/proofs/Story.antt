@@ -4,12 +4,16 @@ use Rattle.std.specs.Prelude.{is_none, ◌||◌, OnErr, OnOk}
 use Rattle.std.proofs.lemmas.List.{append-nil}
 use Rattle.onvm_base.specs.declared.status.Status.TheVariants as status
 use Rattle.onvm_host.specs.Deeds.{Amounts, Deed, Opened, Said, Shut, faults_of, has_failed}
-use Rattle.onvm_host.specs.Files.{Entries}
+use Rattle.onvm_host.specs.Files.{Entries, Opens}
+use Rattle.onvm_host.proofs.Bytes.{Consumes-rest}
 use Rattle.onvm_host.proofs.Deeds.{faults_of-append}
+use Rattle.ingress.specs.Fed.{IsCutOff}
 use Rattle.onvm_top.specs.Fault.{status_of}
-use Rattle.onvm_top.specs.Moved.{IsReading, Reads, SaysOnce}
-use Rattle.onvm_top.specs.Stops.{IsStopped}
-use Rattle.onvm_top.specs.Story.{Adds, AreSays, CannotRead, CannotReadChain, CannotWrite, IsCutShort, IsRead, IsStory, Then}
+use Rattle.onvm_top.specs.Known.{OnTold}
+use Rattle.onvm_host.specs.Moved.{IsReading, Reads}
+use Rattle.onvm_top.specs.Put.{SaysOnce}
+use Rattle.onvm_top.specs.Stops.{CannotReadSound, IsStopped}
+use Rattle.onvm_top.specs.Story.{Adds, AreSays, CannotRead, CannotWrite, IsCutShort, IsRead, IsStory, Then}
 use Rattle.onvm_top.specs.declared.fault.Fault.{Fault}
 
 -- deeds and says behind them
@@ -229,6 +233,36 @@ CannotRead-shut before opened now name same fresh takes limit first second named
   inr (takes, refl, reading_of limit None fresh takes none reads),
 )
 
+-- a capture was shut after a failed take, behind a sound front of it
+pub CannotReadSound-shut : (before opened now : List Deed) (name same : List ℕ) (fresh takes : Amounts) (limit : ℕ)
+    (told : Option Entries) (left left' : Option (List ℕ))
+    → opened ≡ before ++ Opened name ∷ [] → now ≡ opened ++ Shut same takes ∷ [] → same ≡ name → fresh ≡ []
+    → Reads limit None fresh takes → Opens told name left → IsCutOff left left' fresh takes
+    → Adds before now (λ deeds. CannotRead limit name deeds × OnTold told (CannotReadSound name deeds))
+CannotReadSound-shut before opened now name same fresh takes limit told left left' first second named none reads
+    opens cut =
+    let sound : OnTold told (CannotReadSound name (Opened name ∷ Shut name takes ∷ [])) =
+    λ files is.
+    let text = opens files is in
+    let split = Consumes-rest left left' text.0 cut.bytes text.2 cut.consumed in
+    inr (
+      takes,
+      refl,
+      record {
+        front = cut.bytes;
+        rest = split.0;
+        file = text.1 ∙ ap (λ t. Some t) split.2;
+        earlier = cut.earlier;
+        in_order = cut.taken ∙ ap (λ t. t ++ (cut.earlier ++ None ∷ [])) none;
+        moved = cut.moved;
+        sound = cut.sound;
+      },
+    ) in (
+      Opened name ∷ Shut name takes ∷ [],
+      shut_after before opened now name same takes first second named,
+      (inr (takes, refl, reading_of limit None fresh takes none reads), sound),
+    )
+
 -- some deeds were added, and then others
 pub Adds-Then : (before between now : List Deed) (P Q : List Deed → Type 0) → Adds before between P → Adds between now Q
     → Adds before now (Then P Q)
@@ -261,21 +295,6 @@ Adds-line words told told_now fault before now old new line deeds stopped (inr p
   deeds ++ map Said part.0,
   part.1 ∙ append_assoc before deeds (map Said part.0),
   IsStory-stopped words told told_now deeds fault part.0 stopped,
-)
-
--- and where the chain file was another and Read is told, the calls end at it
-pub Adds-other_chain : (before now : List Deed) (old new : Option (List ℕ)) (line name : List ℕ) (deeds : List Deed)
-    → CannotReadChain name deeds → SaysOnce old new (before ++ deeds) now line
-    → Adds before now (Then (CannotReadChain name) AreSays)
-Adds-other_chain before now old new line name deeds failed (inl all) = (
-  deeds ++ map Said all.0,
-  all.1 ∙ append_assoc before deeds (map Said all.0),
-  then_says (CannotReadChain name) deeds all.0 failed,
-)
-Adds-other_chain before now old new line name deeds failed (inr part) = (
-  deeds ++ map Said part.0,
-  part.1 ∙ append_assoc before deeds (map Said part.0),
-  then_says (CannotReadChain name) deeds part.0 failed,
 )
 
 -- added deeds with a fault make the count rise

@@ -11,8 +11,8 @@ use Rattle.pcap_in.specs.declared.pull.PcapFault.{PcapFault}
 use Rattle.onvm_top.specs.declared.chain.TheConstants.{FORWARDING_CHAIN}
 use Rattle.onvm_top.specs.Command.{Command, IsCommand}
 use Rattle.onvm_top.specs.Known.{OnTold}
-use Rattle.onvm_top.specs.Limits.{IsWithinLimits, PassesLimit}
-use Rattle.onvm_top.specs.Replay.{OnlyChanges}
+use Rattle.ingress.specs.Limits.{IsWithinLimits, PassesLimit}
+use Rattle.onvm_top.specs.Replay.{IsDone, OnlyChanges}
 
 -- the words are no command
 abbrev pub IsNoCommand : List (List ℕ) → Type 0
@@ -70,6 +70,21 @@ FailsToWrite words told told_now = (command : Command) × IsCommand words comman
     × (frames : List Frame) × OnTold told (λ files. IsChain command.chain files
     × IsGoodCapture command.capture files frames
     × ((told_now ≡ Some files) ⊎ HoldsFront command.out frames files told_now))
+
+-- the words are a command
+abbrev pub HasCommand : List (List ℕ) → Type 0
+HasCommand words = (command : Command) × IsCommand words command
+
+-- what each status tells of the words, and of the files that were told and are told now. Unless the run
+-- was done or failed to write, these are the same
+abbrev pub IsTrueStatus : List (List ℕ) → Option Entries → Option Entries → Status → Type 0
+IsTrueStatus words told told_now status.Done = IsDone words told told_now
+IsTrueStatus words told told_now status.Words = IsNoCommand words × (told_now ≡ told)
+IsTrueStatus words told told_now status.Plan = HasOtherChain words told × (told_now ≡ told)
+IsTrueStatus words told told_now status.Capture = HasBadCapture words told × (told_now ≡ told)
+IsTrueStatus words told told_now status.Read = HasCommand words × (told_now ≡ told)
+IsTrueStatus words told told_now status.Write = FailsToWrite words told told_now
+IsTrueStatus words told told_now status.Memory = HasCommand words × (told_now ≡ told)
 
 -- where the words are a command and the files are told, this holds of both
 abbrev pub OnCommand : List (List ℕ) → Option Entries → (Command → Entries → Type 0) → Type 0

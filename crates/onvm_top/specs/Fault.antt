@@ -3,6 +3,8 @@ use Rattle.std.specs.Prelude.{ℕ, List, ◌++◌, ◌∷◌, [], codes}
 use Rattle.std.specs.Fmt.{decimal}
 use Rattle.onvm_base.specs.declared.status.Status.{Status}
 use Rattle.onvm_base.specs.declared.status.Status.TheVariants as status
+use Rattle.onvm_host.specs.declared.fault.HostFault.{HostFault}
+use Rattle.onvm_host.specs.declared.fault.HostFault.TheVariants as host
 use Rattle.pcap_in.specs.declared.pull.PcapFault.{PcapFault}
 use Rattle.pcap_in.specs.declared.pull.PcapFault.TheVariants.{Magic, Version, Link, Torn, TooLong, Fraction}
 use Rattle.onvm_top.specs.declared.fault.Fault.{Fault}
@@ -17,6 +19,11 @@ status_of ReadChain = status.Read
 status_of (ReadCapture port) = status.Read
 status_of Write = status.Write
 status_of Memory = status.Memory
+
+-- what stops a run where the host made no input or output: this fault, unless memory was wanting
+abbrev pub unless_memory : Fault → HostFault → Fault
+unless_memory fault host.Failed = fault
+unless_memory fault host.Memory = Memory
 
 -- what is wrong with a capture, and where a record is named its offset
 unfoldable pub cause_of : PcapFault → List ℕ

@@ -1,10 +1,8 @@
 pub mod Answers
 pub mod Command
 pub mod Fault
-pub mod Fed
 pub mod Known
-pub mod Limits
-pub mod Moved
+pub mod Put
 pub mod Replay
 pub mod Stops
 pub mod Story

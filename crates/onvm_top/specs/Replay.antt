@@ -9,7 +9,7 @@ use Rattle.pcap_in.specs.Classic.{IsCapture}
 use Rattle.pcap_in.specs.Emitted.{emit}
 use Rattle.onvm_top.specs.declared.chain.TheConstants.{FORWARDING_CHAIN}
 use Rattle.onvm_top.specs.Command.{Command, IsCommand}
-use Rattle.onvm_top.specs.Limits.{IsWithinLimits}
+use Rattle.ingress.specs.Limits.{IsWithinLimits}
 
 -- one record for each frame of port 0, numbered from here on: it was sent on port 0
 abbrev pub all_sent : ℕ → List Frame → List Record

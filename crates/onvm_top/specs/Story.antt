@@ -7,8 +7,8 @@ use Rattle.onvm_host.specs.Deeds.{Amounts, Deed, Opened, OpenFailed, Shut, Creat
 use Rattle.pcap_in.specs.Emitted.{emit}
 use Rattle.onvm_top.specs.declared.chain.TheConstants.{FORWARDING_CHAIN}
 use Rattle.onvm_top.specs.Command.{Command, IsCommand}
-use Rattle.onvm_top.specs.Limits.{capture_limit, IsWithinLimits}
-use Rattle.onvm_top.specs.Moved.{IsReading, Moved}
+use Rattle.ingress.specs.Limits.{capture_limit, IsWithinLimits}
+use Rattle.onvm_host.specs.Moved.{IsReading, Moved}
 
 -- deeds were added, of which this holds
 abbrev pub Adds : List Deed → List Deed → (List Deed → Type 0) → Type 0

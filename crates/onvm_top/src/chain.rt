@@ -1,7 +1,7 @@
 //! The chain file that is read today.
 ghost use Rattle.std.specs.Prelude.{◌≡◌, ◌<◌, ◌≤◌, ◌+◌, ℕ, List, IfOk, OnErr, OnOk, IsTrue, ◌↔◌, None, Some, length, take};
 ghost use Rattle.std.specs.Io.KnownBytes.{Consumes, IsAtEnd};
-ghost use Rattle.onvm_top.specs.Moved.{Reads};
+ghost use Rattle.onvm_host.specs.Moved.{Reads};
 
 use onvm_base::Failed;
 use onvm_host::Source;

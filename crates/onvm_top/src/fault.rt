@@ -6,6 +6,7 @@ ghost use Rattle.onvm_top.specs.Fault.{cause_of};
 use arrayvec::ArrayString;
 use itoa::Buffer;
 use onvm_base::{PortId, Status};
+use onvm_host::HostFault;
 use pcap_in::PcapFault;
 
 const USAGE: &str =
@@ -36,7 +37,18 @@ pub enum Fault {
 }
 
 impl Fault {
-    ghost use Rattle.onvm_top.specs.Fault.{line_of, status_of, text_of};
+    ghost use Rattle.onvm_top.specs.Fault.{line_of, status_of, text_of, unless_memory};
+
+    /// What stops a run where the host made no input or output: this fault, unless memory was
+    /// wanting.
+    pub fn unless_memory(self, why: HostFault) -> Fault
+        ensures { result ≡ unless_memory self why }
+    {
+        match why {
+            HostFault::Failed => self,
+            HostFault::Memory => Fault::Memory,
+        }
+    }
 
     /// How a run ends that is stopped by it.
     pub fn status(&self) -> Status

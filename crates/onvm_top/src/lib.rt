@@ -8,11 +8,9 @@
 mod chain;
 mod command;
 mod fault;
-mod input;
 pub mod laws;
 mod manager;
 mod output;
-mod received;
 #[cfg(test)]
 mod tests;
 

@@ -1,27 +1,27 @@
 //! A whole run.
-ghost use Rattle.std.specs.Prelude.{◌≡◌, ◌≢◌, ◌⊎◌, ◌<◌, ◌++◌, ℕ, List, map, string_bytes, Some, OnOk, IfOk, IfErr};
+ghost use Rattle.std.specs.Prelude.{◌≡◌, ◌≢◌, ◌++◌, List, map, string_bytes, Some, OnOk, IfOk, IfErr};
 ghost use Rattle.onvm_base.specs.declared.frame.Frame.{Frame};
-ghost use Rattle.onvm_host.specs.Deeds.{Deed, faults_of};
+ghost use Rattle.onvm_host.specs.Deeds.{Deed};
 ghost use Rattle.onvm_host.specs.Files.{Entries};
 ghost use Rattle.onvm_host.specs.Names.{SameNames};
 ghost use Rattle.pcap_in.specs.Emitted.{emit};
-ghost use Rattle.onvm_top.specs.Answers.{FailsToWrite, HasBadCapture, HasOtherChain, IsBadCapture, IsChain, IsGoodCapture, IsNoCommand, IsOtherChain, IsUnlessStopped, OnCommand};
+ghost use Rattle.onvm_top.specs.Answers.{IsTrueStatus, IsChain, IsGoodCapture};
 ghost use Rattle.onvm_top.specs.Command.{MayReplay};
 ghost use Rattle.onvm_top.specs.Fault.{line_of, status_of};
 ghost use Rattle.onvm_top.specs.Known.{OnTold};
-ghost use Rattle.onvm_top.specs.Limits.{IsWithinLimits};
-ghost use Rattle.onvm_top.specs.Moved.{SaysOnce};
+ghost use Rattle.ingress.specs.Limits.{IsWithinLimits};
+ghost use Rattle.onvm_top.specs.Put.{SaysOnce};
 ghost use Rattle.onvm_top.specs.Replay.{IsDone, OnlyChanges};
 ghost use Rattle.onvm_top.specs.Stops.{IsStopped, StopsAtCapture, StopsAtChain, StopsAtOutput};
-ghost use Rattle.onvm_top.specs.Story.{Adds, AreSays, CannotReadChain, IsStory, IsStoryOf, ReadsCapture, ReadsChain, Then, WritesFrames};
+ghost use Rattle.onvm_top.specs.Story.{Adds, IsStory, ReadsCapture, ReadsChain, WritesFrames};
 
 use crate::chain::{FORWARDING_CHAIN, is_forwarding_chain};
 use crate::command::command_of;
 use crate::fault::Fault;
-use crate::input::{CaptureFault, read_frames};
 use crate::output::{put_capture, say_all};
+use ingress::{CaptureFault, read_frames};
 use onvm_base::{Frames, PortId, Status};
-use onvm_host::{Clock, Gate, Host, HostFault};
+use onvm_host::{Clock, Gate, Host};
 use std::alloc::Global;
 
 // The one port.
@@ -43,36 +43,11 @@ pub fn run<R: AllocGlobal, H: Host, C: Clock, G: Gate>(
     ensures story { Adds (H.deeds host.old) (H.deeds host.new)
         (IsStory (map string_bytes words.now) result) }
 
-    // What each status tells of words and files.
-    ensures done { result ≡ Status.Done
-        → IsDone (map string_bytes words.now) (H.files host.old) (H.files host.new) }
-    ensures words { result ≡ Status.Words → IsNoCommand (map string_bytes words.now) }
-    ensures plan { result ≡ Status.Plan
-        → HasOtherChain (map string_bytes words.now) (H.files host.old) }
-    ensures capture { result ≡ Status.Capture
-        → HasBadCapture (map string_bytes words.now) (H.files host.old) }
-    ensures write { result ≡ Status.Write
-        → FailsToWrite (map string_bytes words.now) (H.files host.old) (H.files host.new) }
+    // What the status tells of the words and of the files.
+    ensures answer { IsTrueStatus (map string_bytes words.now)
+        (H.files host.old) (H.files host.new) result }
 
-    // The other way round.
-    ensures no_command { IsNoCommand (map string_bytes words.now) → result ≡ Status.Words }
-    ensures other_chain { OnCommand (map string_bytes words.now) (H.files host.old)
-        (λ command files. IsOtherChain command.chain files
-        → IsUnlessStopped Status.Plan result
-        × (result ≡ Status.Read → Adds (H.deeds host.old) (H.deeds host.new)
-        (Then (CannotReadChain command.chain) AreSays))) }
-    ensures bad_capture { OnCommand (map string_bytes words.now) (H.files host.old)
-        (λ command files. IsChain command.chain files → IsBadCapture command.capture files
-        → IsUnlessStopped Status.Capture result) }
-    ensures complete { OnCommand (map string_bytes words.now) (H.files host.old)
-        (λ command files. IsChain command.chain files
-        → (frames : List Frame) → IsGoodCapture command.capture files frames
-        → ¬ (faults_of (H.deeds host.old) < faults_of (H.deeds host.new))
-        → (result ≡ Status.Done) ⊎ (result ≡ Status.Memory)) }
-
-    // Nothing is left behind, and what stopped the run is said once, behind all other calls.
-    ensures none_made { result ≢ Status.Done → result ≢ Status.Write
-        → H.files host.new ≡ H.files host.old }
+    // A run that is done says nothing. Of every other, what stopped it is said behind all its calls.
     ensures quiet { result ≡ Status.Done → H.said host.new ≡ H.said host.old }
     ensures line { result ≢ Status.Done
         → (fault : Fault) × (deeds : List Deed) × (status_of fault ≡ result)
@@ -125,8 +100,7 @@ fn read_chain<H: Host>(host: &mut H, name: &str) -> Result<(), Fault>
 {
     let mut input = match host.open_input(name) {
         Ok(input) => input,
-        Err(HostFault::Failed) => return Err(Fault::ReadChain),
-        Err(HostFault::Memory) => return Err(Fault::Memory),
+        Err(why) => return Err(Fault::ReadChain.unless_memory(why)),
     };
     let same = is_forwarding_chain(&mut input);
     host.shut(input);
@@ -154,8 +128,7 @@ fn read_capture<H: Host>(alloc: Global, host: &mut H, name: &str) -> Result<Fram
 {
     let mut capture = match host.open_input(name) {
         Ok(capture) => capture,
-        Err(HostFault::Failed) => return Err(Fault::ReadCapture(PORT)),
-        Err(HostFault::Memory) => return Err(Fault::Memory),
+        Err(why) => return Err(Fault::ReadCapture(PORT).unless_memory(why)),
     };
     let frames = read_frames(alloc, &mut capture);
     host.shut(capture);
@@ -183,8 +156,7 @@ fn write_output<H: Host>(host: &mut H, name: &str, frames: &Frames) -> Result<()
 {
     let mut output = match host.create_output(name) {
         Ok(output) => output,
-        Err(HostFault::Failed) => return Err(Fault::Write),
-        Err(HostFault::Memory) => return Err(Fault::Memory),
+        Err(why) => return Err(Fault::Write.unless_memory(why)),
     };
     let put = put_capture(&mut output, frames);
     let kept = host.keep(output);

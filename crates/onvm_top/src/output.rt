@@ -1,7 +1,7 @@
 //! Captures and lines written.
 ghost use Rattle.std.specs.Prelude.{◌≡◌, OnErr, OnOk};
 ghost use Rattle.pcap_in.specs.Emitted.{emit, emitted_frame};
-ghost use Rattle.onvm_top.specs.Moved.{PutsAll, PutsPart, SaysAll, SaysPart};
+ghost use Rattle.onvm_top.specs.Put.{PutsAll, PutsPart, SaysAll, SaysPart};
 
 use onvm_base::{Failed, Frame, Frames};
 use onvm_host::{Host, Sink};

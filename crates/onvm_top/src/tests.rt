@@ -318,6 +318,30 @@ fn a_failed_take_makes_nothing(rt: HostRuntime) -> Result<(), Fail> {
     Ok(())
 }
 
+// The first take gives all bytes there are, and the second, which would tell their end, fails.
+#[test]
+fn a_fault_is_told_before_a_later_take_fails(rt: HostRuntime) -> Result<(), Fail> {
+    let mut two = Vec::from_slice(rt.alloc(), &CAPTURE)?;
+    two.extend_from_slice(&CAPTURE[24..])?;
+    let mut faulty = Vec::from_slice(rt.alloc(), &CAPTURE)?;
+    faulty.extend_from_slice(&altered(CAPTURE, 32, [1, 0, 4, 0])[24..])?;
+    for (capture, status, line) in [
+        (two.as_slice(), Status::Read, "fault read 0\n"),
+        (
+            faulty.as_slice(),
+            Status::Capture,
+            "fault capture 0 too-long 56 262145\n",
+        ),
+    ] {
+        let files = files_of(rt.alloc(), CHAIN, capture, &[2])?;
+        let mut host = host_of(rt.alloc(), files, &[])?;
+        assert_eq!(rt; replay(&rt, &mut host, &["c", "o", "k"])?, status);
+        assert_eq!(rt; host.said(), line.as_bytes());
+        assert!(rt; host.file("o").is_none(), "for {line}");
+    }
+    Ok(())
+}
+
 // The output takes over the failing calls of the file that had its name before.
 #[test]
 fn a_failed_put_leaves_what_was_put_before(rt: HostRuntime) -> Result<(), Fail> {

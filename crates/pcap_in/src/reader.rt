@@ -1,7 +1,9 @@
 //! A reader of captures, in whatever pieces they come.
 ghost use Rattle.std.specs.Prelude.{◌≡◌, ◌+◌, ◌^◌, ◌<◌, ◌≤◌, ◌++◌, true, false, length, drop, OnOk, OnErr, IfOk};
 
-use crate::judge::{HEAD_LEN, HEADER_LEN, CaptureHeader, CaptureRecord, judge_header, judge_record};
+use crate::judge::{
+    CaptureHeader, CaptureRecord, HEAD_LEN, HEADER_LEN, judge_header, judge_record,
+};
 use crate::pull::{PcapFault, Pull};
 use crate::spelling::Spelling;
 use onvm_base::{Frame, NoMemory, Packet};
@@ -97,7 +99,9 @@ impl Reader {
             return self.next_record(alloc, spelling, 0);
         }
         match judge_header(self.rest_behind(0)) {
-            CaptureHeader::Part if self.finished => Ok(Pull::Bad(PcapFault::Torn { at: self.place })),
+            CaptureHeader::Part if self.finished => Ok(Pull::Bad(PcapFault::Torn {
+                at: self.place,
+            })),
             CaptureHeader::Part => Ok(Pull::More),
             CaptureHeader::Broken(fault) => Ok(Pull::Bad(fault)),
             CaptureHeader::Whole(spelling) => self.next_record(alloc, spelling, HEADER_LEN),

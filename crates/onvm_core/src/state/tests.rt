@@ -4,7 +4,8 @@ ghost use Rattle.onvm_core.specs.Layouts.{IsLayout};
 use crate::judge::is_buffer;
 use crate::{Act, Crumb, Item, Judged, Layout, Parcel, Place, State, Step, Trail, Word, apply};
 use onvm_base::{
-    BufId, ChainId, FnId, FrameId, NoMemory, Outcome, Packet, PortId, RingId, Stamp, Verdict,
+    BufId, ChainId, FnId, FrameId, MAX_FUNCTIONS, MAX_HOPS, NoMemory, Outcome, Packet, PortId,
+    RingId, Stamp, Verdict,
 };
 use std::alloc::Global;
 use std::test::Fail;
@@ -34,7 +35,7 @@ fn layout() -> Layout
         buffers: 1,
         ring: 2,
         output: 2,
-        core_of: [0; 32],
+        core_of: [0; MAX_FUNCTIONS],
     }
 }
 
@@ -42,7 +43,7 @@ fn layout() -> Layout
 fn parcel(alloc: Global, verdicts: &[Verdict]) -> Result<Parcel, NoMemory> {
     let mut trail = Trail::none();
     for verdict in verdicts {
-        if trail.len() < 32 {
+        if trail.len() < MAX_HOPS {
             trail.add(Crumb {
                 function: F,
                 place: 0,

@@ -1,9 +1,14 @@
 //! The host in memory.
-ghost use Rattle.std.specs.Prelude.{◌≡◌, ⊤, [], Some, IfOk, option_copied};
-ghost use Rattle.onvm_host.specs.Files.{file_of};
+ghost use Rattle.std.specs.Prelude.{◌≡◌, ◌↔◌, ◌⊎◌, ◌<◌, ◌∷◌, ◌++◌, ⊤, [], None, Some, Err, IfOk, IsErr, IsTrue, OnErr, is_err, length, min, option_copied};
+ghost use Rattle.std.specs.Io.{WritesAtMost};
+ghost use Rattle.std.specs.Io.KnownBytes.{WriteAppends};
+ghost use Rattle.std.specs.Result.{result_ok};
+ghost use Rattle.onvm_host.specs.Deeds.{Created, CreateFailed, Opened, OpenFailed, Said, Shut, kept_or_failed, made_or_failed};
+ghost use Rattle.onvm_host.specs.Files.{file_of, Opens, put_file};
 ghost use Rattle.onvm_host.specs.Given.{fails_of, given_entries, HaveDistinctNames};
-ghost use Rattle.onvm_host.specs.Memory.{entries_of};
-ghost use Rattle.onvm_host.specs.Story.{deeds_of};
+ghost use Rattle.onvm_host.specs.Memory.{entries_of, SameSetUp, space_left};
+ghost use Rattle.onvm_host.specs.Story.{amounts_of, deeds_of};
+ghost use Rattle.onvm_host.specs.Tally.{counted, fails_next, fresh, Refuses};
 
 use crate::fault::HostFault;
 use crate::memory::file::{Calls, MemFiles, find_bytes, find_file};
@@ -14,7 +19,7 @@ use crate::memory::tally::Tally;
 use crate::memory::written::Written;
 use crate::name::copy_of;
 use crate::story::{Amounts, Story};
-use crate::traits::Host;
+use crate::traits::{Host, Source};
 use onvm_base::{Failed, ListOf, NoMemory};
 use std::alloc::Global;
 
@@ -45,6 +50,9 @@ impl MemHost {
             ⟦<MemHost as Host>⟧.files host ≡ Some (given_entries files)) }
         ensures said { IfOk result (λ host. ⟦<MemHost as Host>⟧.said host ≡ Some []) }
         ensures fresh { IfOk result (λ host. ⟦<MemHost as Host>⟧.deeds host ≡ []) }
+        ensures given { IfOk result (λ host. host.given ≡ files) }
+        ensures numbers { IfOk result (λ host. host.tally ≡ fresh fail) }
+        ensures space { IfOk result (λ host. (host.space ≡ space) × (host.said.space ≡ space)) }
     {
         Ok(MemHost {
             alloc,
@@ -92,9 +100,8 @@ impl MemHost {
         ensures named { IfOk result (λ output. output.name ≡ name.now) }
         ensures empty { IfOk result (λ output. output.bytes.bytes.items ≡ []) }
         ensures space { IfOk result (λ output. output.bytes.space ≡ self.now.space) }
-        ensures fails { IfOk result (λ output.
-            output.tally.fail ≡ fails_of name.now self.now.given) }
-        ensures first { IfOk result (λ output. output.tally.calls ≡ 0) }
+        ensures numbers { IfOk result (λ output.
+            output.tally ≡ fresh (fails_of name.now self.now.given)) }
         ensures fresh { IfOk result (λ output. output.puts ≡ Amounts.None) }
     {
         Ok(MemOutput {
@@ -122,9 +129,29 @@ impl Host for MemHost {
 
     ghost may_create = { λ _ _. ⊤ };
 
-    fn open_input(&mut self, name: &str) -> Result<MemInput, HostFault> {
+    // Here and below the clauses behind the comment inside say more than the trait: which calls
+    // fail, and what numbers and space an input or an output is given.
+    fn open_input(&mut self, name: &str) -> Result<MemInput, HostFault>
+        ensures left { IfOk result (λ input.
+            Opens (Some (entries_of self.old)) name.now (⟦<MemInput as Source>⟧.left input)) }
+        ensures named { IfOk result (λ input. input.name ≡ name.now) }
+        ensures fresh { IfOk result (λ input. amounts_of input.takes ≡ []) }
+        ensures files { entries_of self.new ≡ entries_of self.old }
+        ensures said { self.new.said.bytes.items ≡ self.old.said.bytes.items }
+        ensures told { deeds_of self.new.story ≡ deeds_of self.old.story
+            ++ made_or_failed (Opened name.now) (OpenFailed name.now) result }
+        // What the trait leaves open.
+        ensures listed { IsTrue (fails_next self.old.tally) → IsErr result }
+        ensures failed { result ≡ Err HostFault.Failed
+            → IsTrue (fails_next self.old.tally) ⊎ (file_of name.now (entries_of self.old) ≡ None) }
+        ensures numbers { IfOk result (λ input.
+            input.tally ≡ fresh (fails_of name.now self.old.given)) }
+        ensures counted { self.new.tally ≡ counted self.old.tally }
+        ensures same { SameSetUp self.old self.new }
+    {
+        let answer = self.tally.call();
         let copy = copy_of(self.alloc, name)?;
-        if self.tally.call().is_err() {
+        if answer.is_err() {
             self.story.open_failed(&copy);
             return Err(HostFault::Failed);
         }
@@ -138,11 +165,29 @@ impl Host for MemHost {
         Ok(MemInput::make(copy, bytes, fail))
     }
 
-    fn create_output(&mut self, name: &str) -> Result<MemOutput, HostFault> {
+    fn create_output(&mut self, name: &str) -> Result<MemOutput, HostFault>
+        ensures made { IfOk result (λ _. entries_of self.new ≡ put_file name.now [] (entries_of self.old)) }
+        ensures empty { IfOk result (λ output. output.bytes.bytes.items ≡ []) }
+        ensures named { IfOk result (λ output. output.name ≡ name.now) }
+        ensures fresh { IfOk result (λ output. amounts_of output.puts ≡ []) }
+        ensures err { OnErr result (entries_of self.new ≡ entries_of self.old) }
+        ensures said { self.new.said.bytes.items ≡ self.old.said.bytes.items }
+        ensures told { deeds_of self.new.story ≡ deeds_of self.old.story
+            ++ made_or_failed (Created name.now) (CreateFailed name.now) result }
+        // What the trait leaves open.
+        ensures listed { IsTrue (fails_next self.old.tally) → IsErr result }
+        ensures failed { result ≡ Err HostFault.Failed → IsTrue (fails_next self.old.tally) }
+        ensures numbers { IfOk result (λ output.
+            output.tally ≡ fresh (fails_of name.now self.old.given)) }
+        ensures space { IfOk result (λ output. output.bytes.space ≡ self.old.space) }
+        ensures counted { self.new.tally ≡ counted self.old.tally }
+        ensures same { SameSetUp self.old self.new }
+    {
+        let answer = self.tally.call();
         let output = self.output(name)?;
         let empty = copy_of(self.alloc, name)?;
         let node = Box::new(self.alloc, Written::End)?;
-        if self.tally.call().is_err() {
+        if answer.is_err() {
             self.story.create_failed(&output.name);
             return Err(HostFault::Failed);
         }
@@ -151,11 +196,29 @@ impl Host for MemHost {
         Ok(output)
     }
 
-    fn shut(&mut self, input: MemInput) {
+    fn shut(&mut self, input: MemInput)
+        ensures files { entries_of self.new ≡ entries_of self.old }
+        ensures said { self.new.said.bytes.items ≡ self.old.said.bytes.items }
+        ensures told { deeds_of self.new.story ≡ deeds_of self.old.story
+            ++ Shut input.name (amounts_of input.takes) ∷ [] }
+        // What the trait leaves open.
+        ensures uncounted { self.new.tally ≡ self.old.tally }
+        ensures same { SameSetUp self.old self.new }
+    {
         self.story.shut(&input.name, &input.takes);
     }
 
-    fn keep(&mut self, output: MemOutput) -> Result<(), Failed> {
+    fn keep(&mut self, output: MemOutput) -> Result<(), Failed>
+        ensures files { entries_of self.new
+            ≡ put_file output.name output.bytes.bytes.items (entries_of self.old) }
+        ensures said { self.new.said.bytes.items ≡ self.old.said.bytes.items }
+        ensures told { deeds_of self.new.story ≡ deeds_of self.old.story
+            ++ kept_or_failed output.name (amounts_of output.puts) result ∷ [] }
+        // What the trait leaves open.
+        ensures listed { is_err result ≡ fails_next self.old.tally }
+        ensures counted { self.new.tally ≡ counted self.old.tally }
+        ensures same { SameSetUp self.old self.new }
+    {
         let answer = self.tally.call();
         let answer = self.story.kept(&output.name, &output.puts, answer);
         let MemOutput {
@@ -168,7 +231,21 @@ impl Host for MemHost {
         answer
     }
 
-    fn say(&mut self, piece: &[u8]) -> Result<usize, Failed> {
+    fn say(&mut self, piece: &[u8]) -> Result<usize, Failed>
+        ensures bound { WritesAtMost result piece.now }
+        ensures some { IfOk result (λ n. 0 < length piece.now → 0 < n) }
+        ensures bytes { WriteAppends (Some self.old.said.bytes.items)
+            (Some self.new.said.bytes.items) result piece.now }
+        ensures files { entries_of self.new ≡ entries_of self.old }
+        ensures told { deeds_of self.new.story ≡ deeds_of self.old.story
+            ++ Said (result_ok result) ∷ [] }
+        // What the trait leaves open.
+        ensures refused { IsErr result
+            ↔ Refuses self.old.tally (space_left self.old.said) piece.now }
+        ensures count { IfOk result (λ n. n ≡ min (length piece.now) (space_left self.old.said)) }
+        ensures counted { self.new.tally ≡ counted self.old.tally }
+        ensures same { SameSetUp self.old self.new }
+    {
         let answer = self.said.place(piece, &mut self.tally);
         self.story.said(answer)
     }

@@ -1,8 +1,10 @@
 //! What is taken of a file in memory.
-ghost use Rattle.std.specs.Prelude.{◌≡◌, Some};
+ghost use Rattle.std.specs.Prelude.{◌≡◌, ◌∷◌, ◌++◌, [], Some, is_err};
 ghost use Rattle.std.specs.Io.{ReadsAtMost};
 ghost use Rattle.std.specs.Io.KnownBytes.{ReadConsumes};
+ghost use Rattle.std.specs.Result.{result_ok};
 ghost use Rattle.onvm_host.specs.Story.{amounts_of};
+ghost use Rattle.onvm_host.specs.Tally.{counted, fails_next, fresh};
 
 use crate::memory::file::Calls;
 use crate::memory::tally::Tally;
@@ -25,6 +27,7 @@ impl MemInput {
         ensures left { ⟦<MemInput as Source>⟧.left result ≡ Some bytes.items }
         ensures named { result.name ≡ name }
         ensures fresh { result.takes ≡ Amounts.None }
+        ensures numbers { result.tally ≡ fresh fail }
     {
         MemInput {
             name,
@@ -41,6 +44,8 @@ impl MemInput {
             (⟦<Cursor<Vec<u8>> as Read>⟧.remaining self.new.bytes) result into.new }
         ensures named { self.new.name ≡ self.old.name }
         ensures takes { self.new.takes ≡ self.old.takes }
+        ensures listed { is_err result ≡ fails_next self.old.tally }
+        ensures counted { self.new.tally ≡ counted self.old.tally }
     {
         self.tally.call()?;
         match self.bytes.read(into) {
@@ -57,7 +62,16 @@ impl Source for MemInput {
 
     ghost takes = { λ input. amounts_of input.takes };
 
-    fn take(&mut self, into: &mut [u8]) -> Result<usize, Failed> {
+    // The first four clauses are the trait's. The others say which takes fail.
+    fn take(&mut self, into: &mut [u8]) -> Result<usize, Failed>
+        ensures bound { ReadsAtMost result into.new }
+        ensures bytes { ReadConsumes (⟦<Cursor<Vec<u8>> as Read>⟧.remaining self.old.bytes)
+            (⟦<Cursor<Vec<u8>> as Read>⟧.remaining self.new.bytes) result into.new }
+        ensures named { self.new.name ≡ self.old.name }
+        ensures told { amounts_of self.new.takes ≡ amounts_of self.old.takes ++ result_ok result ∷ [] }
+        ensures listed { is_err result ≡ fails_next self.old.tally }
+        ensures counted { self.new.tally ≡ counted self.old.tally }
+    {
         let answer = self.read(into);
         self.takes.add(answer)
     }

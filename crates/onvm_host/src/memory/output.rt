@@ -1,6 +1,11 @@
 //! What is put into a file in memory.
-ghost use Rattle.std.specs.Prelude.{Some};
+ghost use Rattle.std.specs.Prelude.{◌≡◌, ◌↔◌, ◌<◌, ◌∷◌, ◌++◌, [], Some, IfOk, IsErr, length, min};
+ghost use Rattle.std.specs.Io.{WritesAtMost};
+ghost use Rattle.std.specs.Io.KnownBytes.{WriteAppends};
+ghost use Rattle.std.specs.Result.{result_ok};
+ghost use Rattle.onvm_host.specs.Memory.{space_left};
 ghost use Rattle.onvm_host.specs.Story.{amounts_of};
+ghost use Rattle.onvm_host.specs.Tally.{counted, Refuses};
 
 use crate::memory::room::Room;
 use crate::memory::tally::Tally;
@@ -26,7 +31,21 @@ impl Sink for MemOutput {
 
     ghost puts = { λ output. amounts_of output.puts };
 
-    fn put(&mut self, piece: &[u8]) -> Result<usize, Failed> {
+    // The first five clauses are the trait's. The others say which puts fail, and how much one takes.
+    fn put(&mut self, piece: &[u8]) -> Result<usize, Failed>
+        ensures bound { WritesAtMost result piece.now }
+        ensures some { IfOk result (λ n. 0 < length piece.now → 0 < n) }
+        ensures bytes { WriteAppends (Some self.old.bytes.bytes.items)
+            (Some self.new.bytes.bytes.items) result piece.now }
+        ensures named { self.new.name ≡ self.old.name }
+        ensures told { amounts_of self.new.puts ≡ amounts_of self.old.puts ++ result_ok result ∷ [] }
+        ensures refused { IsErr result
+            ↔ Refuses self.old.tally (space_left self.old.bytes) piece.now }
+        ensures count { IfOk result (λ n.
+            n ≡ min (length piece.now) (space_left self.old.bytes)) }
+        ensures counted { self.new.tally ≡ counted self.old.tally }
+        ensures space { self.new.bytes.space ≡ self.old.bytes.space }
+    {
         let answer = self.bytes.place(piece, &mut self.tally);
         self.puts.add(answer)
     }

@@ -1,8 +1,8 @@
 //! Bytes in a space that was taken for them.
-ghost use Rattle.std.specs.Prelude.{◌≡◌, ◌≤◌, ◌<◌, ◌+◌, ◌-◌, ◌^◌, ◌==◌, ◌++◌, [], take, length, min};
-ghost use Rattle.std.specs.Prelude.{Some, IfOk, IsErr, IsTrue, vec_len, vec_capacity};
+ghost use Rattle.std.specs.Prelude.{◌≡◌, ◌↔◌, ◌≤◌, ◌<◌, ◌-◌, ◌++◌, [], take, length, min};
+ghost use Rattle.std.specs.Prelude.{Some, IfOk, IsErr, vec_len, vec_capacity};
 ghost use Rattle.std.specs.Io.KnownBytes.{WriteAppends};
-ghost use Rattle.std.specs.List.{list_any};
+ghost use Rattle.onvm_host.specs.Tally.{counted, Refuses};
 
 use crate::memory::tally::Tally;
 use onvm_base::{Failed, ListOf, NoMemory, Text};
@@ -58,10 +58,9 @@ impl Room {
         ensures bytes { WriteAppends (Some self.old.bytes.items) (Some self.new.bytes.items)
             result piece.now }
         ensures space { self.new.space ≡ self.old.space }
-        ensures fail { tally.new.fail ≡ tally.old.fail }
-        ensures calls { tally.new.calls ≡ min (tally.old.calls + 1) (2 ^ 64 - 1) }
-        ensures listed { IsTrue (list_any (λ number. number == tally.new.calls) tally.old.fail)
-            → IsErr result }
+        ensures counted { tally.new ≡ counted tally.old }
+        ensures refused { IsErr result
+            ↔ Refuses tally.old (self.old.space - vec_len self.old.bytes) piece.now }
     {
         tally.call()?;
         let count = self.append(piece);

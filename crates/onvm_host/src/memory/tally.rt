@@ -1,6 +1,6 @@
 //! Calls, counted.
-ghost use Rattle.std.specs.Prelude.{◌≡◌, ◌+◌, ◌-◌, ◌^◌, ◌==◌, min, is_err};
-ghost use Rattle.std.specs.List.{list_any};
+ghost use Rattle.std.specs.Prelude.{◌≡◌, is_err};
+ghost use Rattle.onvm_host.specs.Tally.{counted, fails_next, fresh};
 
 use crate::memory::file::Calls;
 use onvm_base::Failed;
@@ -14,17 +14,15 @@ pub(super) struct Tally {
 
 impl Tally {
     pub(super) fn make(fail: Calls) -> Tally
-        ensures { result ≡ record { fail = fail; calls = 0 } }
+        ensures { result ≡ fresh fail }
     {
         Tally { fail, calls: 0 }
     }
 
     /// Counts a call, and fails where it is one of those that do.
     pub(super) fn call(&mut self) -> Result<(), Failed>
-        ensures fail { self.new.fail ≡ self.old.fail }
-        ensures calls { self.new.calls ≡ min (self.old.calls + 1) (2 ^ 64 - 1) }
-        ensures listed { is_err result
-            ≡ list_any (λ number. number == self.new.calls) self.old.fail }
+        ensures counted { self.new ≡ counted self.old }
+        ensures listed { is_err result ≡ fails_next self.old }
     {
         self.calls = self.calls.saturating_add(1);
         if self.fail.as_slice().contains(&self.calls) {

@@ -1,7 +1,7 @@
 use Rattle.std.proofs.Common.{◌≡◌, ◌<◌, ◌%◌, sym, ◌∙◌, arith, true, false, length, reverse, eq-eqb, ne_eqb}
 use Rattle.std.specs.Prelude.{◌==◌}
 use Rattle.onvm_core.specs.History.{pushed_on}
-use Rattle.onvm_core.proofs.Scanned.{standing_here, standing_next}
+use Rattle.onvm_core.proofs.Scanned.{cell_here, cell_next}
 use Rattle.onvm_core.proofs.word.cell_value.Goals as goal
 
 pub returns-in-Some : goal.returns-in-Some
@@ -9,7 +9,7 @@ returns-in-Some c =
     let met : (c.loop-k.k % c.args.size == c.args.at) ≡ true =
     eq-eqb (c.loop-k.k % c.args.size) c.args.at c.if-k-size.true in
     c.number_of.ensures
-    ∙ sym (standing_here c.args.size c.args.at c.loop-k.k
+    ∙ sym (cell_here c.args.size c.args.at c.loop-k.k
     (pushed_on c.args.ring (reverse c.args.steps.now)) c.in-Some.item.now c.in-Some.ensures.found met)
     ∙ sym c.loop-k.invariant
 
@@ -18,6 +18,6 @@ loop-k-preserved c =
     let unmet : (c.loop-k.k % c.args.size == c.args.at) ≡ false =
     ne_eqb (c.loop-k.k % c.args.size) c.args.at c.if-k-size.false in
     let less : c.loop-k.k < length (pushed_on c.args.ring (reverse c.args.steps.now)) =
-    omega (arith, c.moved-pushed.ensures.pushed, c.loop-k-test.true) in
+    omega (arith, c.ring_counts-pushed.ensures.pushed, c.loop-k-test.true) in
     c.loop-k.invariant
-    ∙ standing_next c.args.size c.args.at c.loop-k.k (pushed_on c.args.ring (reverse c.args.steps.now)) less unmet
+    ∙ cell_next c.args.size c.args.at c.loop-k.k (pushed_on c.args.ring (reverse c.args.steps.now)) less unmet

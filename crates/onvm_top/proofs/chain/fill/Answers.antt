@@ -1,7 +1,7 @@
 use Rattle.std.proofs.Common.{sym, subst, refl, List, ℕ, length, take, arith, rules}
 use Rattle.std.specs.Io.KnownBytes.{Consumes}
-use Rattle.onvm_top.proofs.Known.{Consumes-append, length-written, take-written}
-use Rattle.onvm_top.proofs.Moved.{MovedSince-next, MovedSince-start, Reads-full}
+use Rattle.onvm_host.proofs.Bytes.{Consumes-append, length-written, take-written}
+use Rattle.onvm_host.proofs.Moved.{MovedSince-next, MovedSince-start, Reads-full}
 use Rattle.onvm_top.proofs.chain.fill.Goals as goal
 
 pub loop-len-init : goal.loop-len-init

@@ -1,6 +1,6 @@
 use Rattle.std.proofs.Common.{◌≡◌, ◌≤◌, ◌-◌, length, take}
 use Rattle.std.specs.Io.KnownBytes.{Consumes}
-use Rattle.onvm_top.specs.Moved.{MovedSince}
+use Rattle.onvm_host.specs.Moved.{MovedSince}
 use Rattle.onvm_top.proofs.chain.fill.Given as goal
 
 -- the front of the room has what was taken, some at each take

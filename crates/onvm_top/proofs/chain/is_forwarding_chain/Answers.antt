@@ -1,6 +1,6 @@
 use Rattle.std.proofs.Common.{arith}
 use Rattle.onvm_top.specs.declared.chain.TheConstants.{FORWARDING_CHAIN}
-use Rattle.onvm_top.proofs.Known.{same_as_front}
+use Rattle.onvm_host.proofs.Bytes.{same_as_front}
 use Rattle.onvm_top.proofs.chain.is_forwarding_chain.Goals as goal
 
 pub returns-clause-exact : goal.returns-clause-exact

@@ -1,7 +1,7 @@
 use Rattle.std.proofs.Common.{◌≡◌, ◌≢◌, ◌∙◌, refl, inl, inr, Err, rules}
-use Rattle.onvm_top.specs.Limits.{capture_limit}
-use Rattle.onvm_top.specs.declared.input.CaptureFault.TheVariants as input
-use Rattle.onvm_top.proofs.Story.{IsRead-shut}
+use Rattle.ingress.specs.Limits.{capture_limit}
+use Rattle.ingress.specs.declared.capture.CaptureFault.TheVariants as input
+use Rattle.onvm_top.proofs.Story.{CannotReadSound-shut, IsRead-shut}
 use Rattle.onvm_top.proofs.manager.read_capture.Goals as goal
 
 pub returns-in-Err-Broken-clause-err : goal.returns-in-Err-Broken-clause-err
@@ -51,3 +51,16 @@ returns-in-Err-TooMany-clause-err g c =
             },
       )),
     )
+
+pub returns-in-Err-Read-clause-err : goal.returns-in-Err-Read-clause-err
+returns-in-Err-Read-clause-err g c =
+    let failed : c.read_frames-frames.result ≡ Err input.Read = search rules in
+    let calls =
+    CannotReadSound-shut (g.H.Host.deeds c.args.host.now) (g.H.Host.deeds c.open_input.new.self)
+    (g.H.Host.deeds c.shut.new.self)
+    c.args.name.now (g.H.Input.Source.name c.read_frames-frames.new.source) (g.H.Input.Source.takes c.in-Ok.capture)
+    (g.H.Input.Source.takes c.read_frames-frames.new.source) capture_limit (g.H.Host.files c.args.host.now)
+    (g.H.Input.Source.left c.in-Ok.capture) (g.H.Input.Source.left c.read_frames-frames.new.source) c.in-Ok.ensures.told
+    c.shut.ensures.told (c.read_frames-frames.ensures.named ∙ c.in-Ok.ensures.named) c.in-Ok.ensures.fresh
+    (c.read_frames-frames.ensures.read failed) c.in-Ok.ensures.left (c.read_frames-frames.ensures.sound failed) in
+    (calls.0, calls.1, inr (inr (inl (refl, calls.2.0, calls.2.1))))

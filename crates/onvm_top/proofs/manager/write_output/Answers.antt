@@ -2,7 +2,7 @@ use Rattle.std.proofs.Common.{◌∙◌, sym, refl, inl, inr, []}
 use Rattle.std.proofs.lemmas.List.{append-nil}
 use Rattle.pcap_in.specs.Emitted.{emit}
 use Rattle.onvm_top.proofs.Kept.{CannotFinish-keep, CannotFinish-put, kept_there}
-use Rattle.onvm_top.proofs.Moved.{OnErr-is, OnOk-is}
+use Rattle.onvm_top.proofs.Put.{OnErr-is, OnOk-is}
 use Rattle.onvm_top.proofs.manager.write_output.Goals as goal
 
 -- all was put, and keep failed

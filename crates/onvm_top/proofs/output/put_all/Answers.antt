@@ -1,6 +1,6 @@
 use Rattle.std.proofs.Common.{rules, refl, [], ◌++◌, take, arith}
 use Rattle.std.proofs.lemmas.Grind.{common_steps}
-use Rattle.onvm_top.proofs.Moved.{PutsAll-next, PutsAll-start}
+use Rattle.onvm_top.proofs.Put.{PutsAll-next, PutsAll-start}
 use Rattle.onvm_top.proofs.output.put_all.Goals as goal
 
 pub loop-rest-init : goal.loop-rest-init

@@ -1,5 +1,5 @@
 use Rattle.std.proofs.Common.{◌≡◌, ◌++◌, length, List, ℕ}
-use Rattle.onvm_top.specs.Moved.{PutsAll}
+use Rattle.onvm_top.specs.Put.{PutsAll}
 use Rattle.onvm_top.proofs.output.put_all.Given as goal
 
 -- the front of the piece was put

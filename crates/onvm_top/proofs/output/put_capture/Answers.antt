@@ -1,9 +1,9 @@
 use Rattle.std.proofs.Common.{subst, List, ℕ, arith, rules}
 use Rattle.std.specs.List.{flat_map}
 use Rattle.pcap_in.specs.Emitted.{emitted_header, emitted_frame}
-use Rattle.onvm_top.specs.Moved.{PutsAll, PutsPart}
+use Rattle.onvm_top.specs.Put.{PutsAll, PutsPart}
 use Rattle.onvm_top.proofs.Emitting.{PutsAll-flat_map_all, PutsAll-flat_map_more, PutsPart-flat_map}
-use Rattle.onvm_top.proofs.Moved.{OnErr-always, PutsPart-first}
+use Rattle.onvm_top.proofs.Put.{OnErr-always, PutsPart-first}
 use Rattle.onvm_top.proofs.output.put_capture.Goals as goal
 
 pub returns-in_err-put_all-clause-err : goal.returns-in_err-put_all-clause-err

@@ -1,7 +1,7 @@
 use Rattle.std.proofs.Common.{◌≡◌, ◌++◌, take}
 use Rattle.std.specs.List.{flat_map}
 use Rattle.pcap_in.specs.Emitted.{emitted_header, emitted_frame}
-use Rattle.onvm_top.specs.Moved.{PutsAll}
+use Rattle.onvm_top.specs.Put.{PutsAll}
 use Rattle.onvm_top.proofs.output.put_capture.Given as goal
 
 -- the header and the frames so far were put

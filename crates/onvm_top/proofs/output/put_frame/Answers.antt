@@ -1,7 +1,7 @@
 use Rattle.std.proofs.Common.{◌∙◌, ap, subst, ℕ, List, length}
 use Rattle.pcap_in.specs.Emitted.{emitted_head}
-use Rattle.onvm_top.specs.Moved.{PutsAll, PutsPart}
-use Rattle.onvm_top.proofs.Moved.{OnErr-always, PutsAll-append, PutsPart-first, PutsPart-second}
+use Rattle.onvm_top.specs.Put.{PutsAll, PutsPart}
+use Rattle.onvm_top.proofs.Put.{OnErr-always, PutsAll-append, PutsPart-first, PutsPart-second}
 use Rattle.onvm_top.proofs.output.put_frame.Goals as goal
 
 pub returns-in_err-put_all-clause-err : goal.returns-in_err-put_all-clause-err

@@ -1,6 +1,6 @@
 use Rattle.std.proofs.Common.{rules, refl, [], ◌++◌, take, arith}
 use Rattle.std.proofs.lemmas.Grind.{common_steps}
-use Rattle.onvm_top.proofs.Moved.{OnErr-always, SaysAll-next, SaysAll-start, SaysPart-next}
+use Rattle.onvm_top.proofs.Put.{OnErr-always, SaysAll-next, SaysAll-start, SaysPart-next}
 use Rattle.onvm_top.proofs.output.say_all.Goals as goal
 
 pub loop-rest-init : goal.loop-rest-init

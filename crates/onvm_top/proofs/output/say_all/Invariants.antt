@@ -1,5 +1,5 @@
 use Rattle.std.proofs.Common.{◌≡◌, ◌++◌, length, List, ℕ}
-use Rattle.onvm_top.specs.Moved.{SaysAll}
+use Rattle.onvm_top.specs.Put.{SaysAll}
 use Rattle.onvm_top.proofs.output.say_all.Given as goal
 
 -- the front of the piece was said

@@ -1,7 +1,7 @@
 use Rattle.std.proofs.Common.{◌≡◌, ◌-◌, ◌<◌, ◌++◌, ◌∙◌, sym, ap, arith, subst, length, take}
 use Rattle.std.specs.Prelude.{map, replicate, slice_index_or, slice_set, All}
 use Rattle.std.proofs.Math.Seq.{take-length}
-use Rattle.onvm_core.specs.declared.layout.TheConstants.{MAX_FUNCTIONS}
+use Rattle.onvm_base.specs.declared.limits.TheConstants.{MAX_FUNCTIONS}
 use Rattle.onvm_base.specs.Plan.{IsFrom}
 use Rattle.onvm_core.proofs.Cores.{length-filled, fill_next, cores_known}
 use Rattle.onvm_core.proofs.layout.Layout.of.Goals as goal

@@ -1,6 +1,6 @@
 use Rattle.std.proofs.Common.{◌≡◌, ◌-◌, ◌≤◌, ◌++◌, length, take}
 use Rattle.std.specs.Prelude.{map, replicate}
-use Rattle.onvm_core.specs.declared.layout.TheConstants.{MAX_FUNCTIONS}
+use Rattle.onvm_base.specs.declared.limits.TheConstants.{MAX_FUNCTIONS}
 use Rattle.onvm_core.proofs.layout.Layout.of.Given as goal
 
 abbrev pub invariant-loop-at : goal.invariant-loop-at

@@ -1,0 +1,3 @@
+pub mod Assembling
+pub mod Examples
+pub mod Naming

@@ -1,0 +1,17 @@
+use Rattle.std.proofs.Common.{◌+◌, ℕ, eqb, sym, subst}
+use prog.Atomic.{either}
+use Rattle.atomic_table.specs.Table.{Allows as TableAllows}
+use Rattle.onvm_core.specs.declared.layout.Layout.{Layout}
+use Rattle.onvm_board.specs.Rule.{HasHistory}
+use Rattle.onvm_board.proofs.memory.Memory.exchange_buffer.Goals as goal
+
+pub compare_exchange-requires : goal.compare_exchange-requires
+compare_exchange-requires g c =
+    let memory = c.args.self.now in
+    let seat = c.args.seat.now in (
+      c.requires.table,
+      c.cell-word.ensures.within,
+      subst (λ (z : Layout × ℕ). TableAllows (HasHistory z.0) memory.table.shared.table_id.slots seat.id seat.me z.1
+          (λ n. either (eqb n 0) (c.args.buf.0 + 1) n) (g.F.StepFact.tells seat.me))
+          (λ i. (sym memory.keyed i, sym c.cell-word.ensures.at i)) c.requires.allowed,
+    )

@@ -1,0 +1,16 @@
+use Rattle.std.proofs.Common.{ℕ, sym, subst}
+use Rattle.atomic_table.specs.Table.{Allows as TableAllows}
+use Rattle.onvm_core.specs.declared.layout.Layout.{Layout}
+use Rattle.onvm_board.specs.Rule.{HasHistory}
+use Rattle.onvm_board.proofs.memory.Memory.load_judged.Goals as goal
+
+pub load-requires : goal.load-requires
+load-requires g c =
+    let memory = c.args.self.now in
+    let seat = c.args.seat.now in (
+      c.requires.table,
+      c.word-at.ensures.within,
+      subst (λ (z : Layout × ℕ). TableAllows (HasHistory z.0) memory.table.shared.table_id.slots seat.id seat.me z.1
+          (λ n. n) (g.F.StepFact.tells seat.me))
+          (λ i. (sym memory.keyed i, sym c.word-at.ensures.at i)) c.requires.allowed,
+    )
