@@ -10,6 +10,7 @@ mod fault;
 mod file;
 mod functions;
 mod judged;
+mod kind_lists;
 mod kinds;
 pub mod laws;
 mod rules;

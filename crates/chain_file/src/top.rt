@@ -17,12 +17,19 @@ use serde_json::Value;
 // What stands for a key that is not there. The default of `output` is the ring, and those of the marks
 // are a quarter from its ends.
 const TRANSMIT: u64 = 1;
+
 const CORES: u64 = 1;
+
 const BUFFERS: u64 = 1024;
+
 const RING: u64 = 128;
+
 const BURST: u64 = 32;
+
 const AGE: u64 = 100_000;
+
 const WINDOW: u64 = 100_000_000;
+
 const TICK: u64 = 10_000_000;
 
 /// The numbers of the top object.
