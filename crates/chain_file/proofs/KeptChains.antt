@@ -1,7 +1,6 @@
 -- The chains that are read keep the rules of a plan.
-use Rattle.std.proofs.Common.{◌≡◌, ◌≢◌, ℕ, zero, suc, ◌+◌, ◌-◌, ◌≤◌, ◌<◌, Bool, true, false, not, nat_eq, nat_le, ◌&&◌, ◌||◌, List, [], ◌∷◌, length, map, take, slice_get, Option, Some, None, is_some, All, codes, bytes_eq, if◌then◌else◌, refl, sym, ap, ◌∙◌, subst, arith, ℤ}
+use Rattle.std.proofs.Common.{◌≡◌, ◌≢◌, ℕ, zero, suc, ◌+◌, ◌-◌, ◌≤◌, ◌<◌, Bool, true, false, not, nat_eq, nat_le, ◌&&◌, ◌||◌, List, [], ◌∷◌, length, take, slice_get, Option, Some, None, is_some, All, codes, bytes_eq, if◌then◌else◌, refl, sym, ap, ◌∙◌, subst, arith, ℤ}
 use Rattle.std.specs.Prelude.{option_and_then, option_map}
-use Rattle.std.specs.List.{list_any}
 use Rattle.serde_json.specs.Data.{Data}
 use Rattle.serde_json.specs.Find.{as_i64, as_number, as_u64, get}
 use Rattle.onvm_base.specs.declared.limits.TheConstants.{MAX_CHAIN_STEPS}
@@ -9,17 +8,16 @@ use Rattle.onvm_base.specs.declared.chain.ChainPlan.{ChainPlan}
 use Rattle.onvm_base.specs.declared.chain.ChainStep.{ChainStep}
 use Rattle.onvm_base.specs.declared.chain.ChainStep.TheVariants as step
 use Rattle.onvm_base.specs.declared.function.FunctionPlan.{FunctionPlan}
-use Rattle.onvm_base.specs.Plan.{IsChainPlan, IsFrom, IsStep}
+use Rattle.onvm_base.specs.Plan.{IsChainPlan, IsStep}
 use Rattle.onvm_base.specs.Services.{instances, instances_from}
 use Rattle.chain_file.specs.declared.fault.Cause.{Cause}
 use Rattle.chain_file.specs.declared.fault.Cause.TheVariants.{Shape, Twice, Unknown}
-use Rattle.chain_file.specs.declared.judged.Judged.{Judged}
 use Rattle.chain_file.specs.Causes.{unless}
-use Rattle.chain_file.specs.Chains.{chain_cause, chain_name, chain_of, has_service, no_service, place_of, step_in, step_out, step_target, step_to, to_from, to_number}
+use Rattle.chain_file.specs.Chains.{chain_cause, chain_name, chain_of, has_service, no_service, place_of, step_in, step_out, step_target, step_to, to_from}
 use Rattle.chain_file.specs.File.{chain_cause_at, chain_cause_in, chains_of, step_cause_at, steps_cause_at}
 use Rattle.chain_file.specs.Kinds.{either}
-use Rattle.chain_file.specs.Values.{list_at, name_at, number_in, only, right, under, wrong}
-use Rattle.chain_file.proofs.KeptFunctions.{text_differs, text_is}
+use Rattle.chain_file.specs.Values.{list_at, only, right, under, wrong}
+use Rattle.chain_file.proofs.KeptFunctions.{text_differs}
 use Rattle.chain_file.proofs.KeptLists.{all_from_places, all_judged, list_at_right, mapped_length, no_cause, no_some, same_some, slice_get-map, slice_get-map_back, slice_get-take, unless_none}
 use Rattle.chain_file.proofs.KeptNames.{both_true, name_at_right}
 use Rattle.chain_file.proofs.Ranges.{number_in-IsFrom}

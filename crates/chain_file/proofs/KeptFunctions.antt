@@ -1,5 +1,5 @@
 -- The functions that are read keep the rules of a plan.
-use Rattle.std.proofs.Common.{◌≡◌, ◌≢◌, ℕ, suc, ◌-◌, ◌≤◌, ◌<◌, Bool, true, false, not, ◌||◌, nat_eq, List, [], ◌∷◌, length, map, take, slice_get, Option, Some, None, All, codes, bytes_eq, refl, sym, ap, ◌∙◌, subst, arith}
+use Rattle.std.proofs.Common.{◌≡◌, ◌≢◌, ℕ, ◌-◌, ◌≤◌, ◌<◌, Bool, true, false, not, ◌||◌, nat_eq, List, [], ◌∷◌, take, slice_get, Option, Some, None, All, codes, bytes_eq, refl, sym, ap, ◌∙◌, subst, arith}
 use Rattle.std.specs.Prelude.{option_and_then}
 use Rattle.std.proofs.lemmas.Bool.Decides.{not_from_Decides}
 use Rattle.std.proofs.lemmas.Slice.Eq.{bytes_eq-Decides}
@@ -13,8 +13,8 @@ use Rattle.onvm_base.specs.Plan.{AreDifferent, IsFunction}
 use Rattle.chain_file.specs.declared.fault.Cause.{Cause}
 use Rattle.chain_file.specs.declared.fault.Cause.TheVariants.{Twice}
 use Rattle.chain_file.specs.Causes.{unless}
-use Rattle.chain_file.specs.File.{cause_at, function_cause_at, function_cause_in, functions_of}
-use Rattle.chain_file.specs.Functions.{function_cause, function_in, has_guest_of, is_like, is_twice, word_in}
+use Rattle.chain_file.specs.File.{function_cause_at, function_cause_in, functions_of}
+use Rattle.chain_file.specs.Functions.{function_in, has_guest_of, is_like, is_twice, word_in}
 use Rattle.chain_file.specs.Kinds.{kind_in, keys_cause}
 use Rattle.chain_file.specs.Values.{name_at, number, number_or}
 use Rattle.chain_file.proofs.KeptKinds.{kind_right}

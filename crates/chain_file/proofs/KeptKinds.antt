@@ -1,23 +1,23 @@
 -- What is read as a kind's parameters are in their ranges.
-use Rattle.std.proofs.Common.{◌≡◌, ℕ, ◌≤◌, Bool, List, [], ◌∷◌, length, Option, Some, None, All, codes, bytes_eq, refl, sym, ap, ◌∙◌, subst, arith}
+use Rattle.std.proofs.Common.{◌≡◌, ℕ, ◌≤◌, List, [], ◌∷◌, length, Option, Some, None, All, codes, bytes_eq, refl, sym, subst, arith}
 use Rattle.std.specs.List.{list_any}
 use Rattle.serde_json.specs.Data.{Data}
-use Rattle.serde_json.specs.Find.{as_array, as_str, get}
+use Rattle.serde_json.specs.Find.{as_str, get}
 use Rattle.std.specs.Prelude.{option_and_then}
 use Rattle.onvm_base.specs.declared.limits.TheConstants.{MAX_DEPTH, MAX_RATE, MAX_ROUTES, MAX_SERVICES, MAX_TAG_PRIORITY, MAX_TESTS, MAX_VLAN}
 use Rattle.onvm_base.specs.declared.function.Kind.{Kind}
-use Rattle.onvm_base.specs.declared.function.Kind.TheVariants.{Forward, Drop, Out, To, Filter, Ttl, Tag, Untag, Macs, Route, Balance, Count, Police, Nat, Guest}
+use Rattle.onvm_base.specs.declared.function.Kind.TheVariants.{Filter, Tag, Route, Balance, Police, Nat, Guest}
 use Rattle.onvm_base.specs.Plan.{AreTests, IsFrom, IsKind, IsName, IsShortPrefix}
 use Rattle.chain_file.specs.declared.fault.Cause.{Cause}
 use Rattle.chain_file.specs.declared.fault.Cause.TheVariants.{Shape, Unknown}
 use Rattle.chain_file.specs.declared.judged.Judged.{Judged}
 use Rattle.chain_file.specs.declared.kinds.Word.{Word}
 use Rattle.chain_file.specs.declared.kinds.Word.TheVariants as word
-use Rattle.chain_file.specs.Causes.{earlier, unless}
-use Rattle.chain_file.specs.Kinds.{address_at, entry_in, entry_target, filter_in, balance_in, guest_in, kind_in, nat_in, no_kind, no_word, route_in, short_prefix_at}
+use Rattle.chain_file.specs.Causes.{unless}
+use Rattle.chain_file.specs.Kinds.{address_at, entry_in, filter_in, kind_in, nat_in, no_word, route_in, short_prefix_at}
 use Rattle.chain_file.specs.Matches.{range_in, tests_in}
-use Rattle.chain_file.specs.Values.{each, kept, list_at, list_of, must, name_at, number, number_in, under}
-use Rattle.chain_file.proofs.KeptLists.{all_each, all_from_places, list_at_right, mapped_length, no_cause, no_some}
+use Rattle.chain_file.specs.Values.{each, kept, list_at, list_of, must, name_at, number_in, under}
+use Rattle.chain_file.proofs.KeptLists.{all_each, list_at_right, mapped_length, no_cause, no_some}
 use Rattle.chain_file.proofs.KeptNames.{name_at_right}
 use Rattle.chain_file.proofs.KeptPrefixes.{short_prefix_at_right}
 use Rattle.chain_file.proofs.KeptTests.{IsRange, range_in_right, tests_right}

@@ -1,17 +1,16 @@
 -- What is true of all items of a list, where no item has a cause.
-use Rattle.std.proofs.Common.{◌≡◌, ◌≢◌, ℕ, zero, suc, ◌≤◌, ◌<◌, ◌⊎◌, inl, inr, Bool, true, false, ◌||◌, nat_le, ◌&&◌, List, [], ◌∷◌, length, map, take, get_or, slice_get, Option, Some, None, option_and_then, All, bytes_eq, refl, sym, ap, ◌∙◌, subst, arith}
+use Rattle.std.proofs.Common.{◌≡◌, ℕ, zero, suc, ◌<◌, Bool, true, false, ◌||◌, List, [], ◌∷◌, length, map, take, get_or, slice_get, Option, Some, None, option_and_then, All, refl, sym, ap, ◌∙◌, subst, arith}
 use Rattle.std.specs.List.{list_any}
 use Rattle.std.proofs.lemmas.List.{length-map}
-use Rattle.serde_json.specs.Data.{Data, Items, no_items, item}
+use Rattle.serde_json.specs.Data.{Data, Items}
 use Rattle.serde_json.specs.Events.{items_len}
 use Rattle.serde_json.specs.Find.{as_array}
 use Rattle.onvm_base.specs.Plan.{IsFrom}
 use Rattle.chain_file.specs.declared.fault.Cause.{Cause}
-use Rattle.chain_file.specs.declared.fault.Cause.TheVariants.{Limit}
 use Rattle.chain_file.specs.declared.judged.Judged.{Judged}
-use Rattle.chain_file.specs.Causes.{earlier, first_of, unless}
+use Rattle.chain_file.specs.Causes.{first_of, unless}
 use Rattle.chain_file.specs.File.{cause_at}
-use Rattle.chain_file.specs.Values.{each, listed, listed_in, length_from, length_in, list_at}
+use Rattle.chain_file.specs.Values.{each, listed_in, length_from, length_in, list_at}
 use Rattle.chain_file.proofs.Untold.{earlier_none, first_of_none, length_listed}
 
 -- ---- options

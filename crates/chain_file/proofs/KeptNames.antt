@@ -8,7 +8,7 @@ use Rattle.serde_json.specs.Find.{as_str}
 use Rattle.onvm_base.specs.declared.limits.TheConstants.{MAX_NAME_BYTES}
 use Rattle.onvm_base.specs.Plan.{IsName, is_name_character}
 use Rattle.chain_file.specs.declared.fault.Cause.TheVariants.{Shape}
-use Rattle.chain_file.specs.Values.{is_name, name_at, name_in, name_of, right, wrong}
+use Rattle.chain_file.specs.Values.{is_name, name_at, name_in, right, wrong}
 use Rattle.chain_file.proofs.KeptLists.{no_some}
 
 pub both_true : (a b : Bool) → (a && b) ≡ true → (a ≡ true) × (b ≡ true)

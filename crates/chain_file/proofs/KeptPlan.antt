@@ -1,5 +1,5 @@
 -- What is read of a file without a cause is a plan.
-use Rattle.std.proofs.Common.{◌≡◌, ℕ, ◌≤◌, ◌<◌, Bool, true, false, List, [], ◌∷◌, length, Option, Some, None, All, codes, if◌then◌else◌, refl, sym, ap, ◌∙◌, subst, arith}
+use Rattle.std.proofs.Common.{◌≡◌, ℕ, ◌<◌, Bool, true, false, List, [], ◌∷◌, length, Option, Some, None, All, codes, if◌then◌else◌, refl, arith}
 use Rattle.std.specs.Prelude.{option_and_then}
 use Rattle.std.proofs.lemmas.List.{length-map}
 use Rattle.serde_json.specs.Data.{Data}
@@ -11,13 +11,12 @@ use Rattle.onvm_base.specs.declared.ids.ChainId.{ChainId}
 use Rattle.onvm_base.specs.declared.rules.RulePlan.{RulePlan}
 use Rattle.chain_file.specs.declared.top.Sizes.{Sizes}
 use Rattle.onvm_base.specs.Plan.{AreTests, IsFrom, IsPlan, IsRule}
-use Rattle.chain_file.specs.declared.fault.Cause.{Cause}
 use Rattle.chain_file.specs.declared.fault.Cause.TheVariants.{Shape, Unknown}
 use Rattle.chain_file.specs.Chains.{chain_of, place_of}
-use Rattle.chain_file.specs.File.{ChainsAreRight, FunctionsAreRight, RulesAreRight, TopIsRight, chain_list, chains_of, default_of, function_list, functions_of, rule_cause_at, rule_list, rules_of, sizes_of}
+use Rattle.chain_file.specs.File.{ChainsAreRight, FunctionsAreRight, RulesAreRight, TopIsRight, chain_list, default_of, function_list, rule_cause_at, rule_list, rules_of, sizes_of}
 use Rattle.chain_file.specs.Functions.{function_in}
 use Rattle.chain_file.specs.Matches.{tests_in}
-use Rattle.chain_file.specs.Rules.{chain_at, chain_at_place, chain_named, chain_of_name, no_tests, rule_in}
+use Rattle.chain_file.specs.Rules.{chain_at, chain_at_place, chain_named, no_tests, rule_in}
 use Rattle.chain_file.specs.Top.{lists_cause, list_or_none, rings_in, roles_in, times_in, top_in, top_keys}
 use Rattle.chain_file.specs.Values.{is_name, list_at, must, name_at, only, under, wrong}
 use Rattle.chain_file.proofs.KeptChains.{chains_differ, chains_right, place_within}

@@ -1,5 +1,5 @@
 -- What is read as a prefix is one.
-use Rattle.std.proofs.Common.{◌≡◌, ◌≢◌, ℕ, ◌+◌, ◌*◌, ◌-◌, ◌≤◌, Bool, true, false, nat_le, ◌&&◌, List, [], ◌∷◌, Option, Some, None, if◌then◌else◌, refl, sym, ◌∙◌, subst, arith}
+use Rattle.std.proofs.Common.{◌≡◌, ℕ, ◌+◌, ◌*◌, ◌-◌, ◌≤◌, Bool, true, false, ◌&&◌, List, [], ◌∷◌, Option, Some, None, if◌then◌else◌, refl, sym, subst, arith}
 use Rattle.std.specs.Prelude.{option_and_then}
 use Rattle.serde_json.specs.Data.{Data}
 use Rattle.serde_json.specs.Find.{as_str, get}
@@ -9,7 +9,7 @@ use Rattle.onvm_base.specs.declared.rules.Prefix.TheVariants.{V4, V6}
 use Rattle.onvm_base.specs.Plan.{IsPrefix, IsShortPrefix}
 use Rattle.chain_file.specs.Kinds.{short_prefix_at, spelled_or, nowhere}
 use Rattle.chain_file.specs.Matches.{prefix_at}
-use Rattle.chain_file.specs.Spelling.{cut, decimal_of, else_short, is_digit, is_leading, long_prefix_of, one_digit, prefix_of, short_prefix_of, three_digits, two_digits, up_to, v4_of, v4_with, v6_of, v6_with}
+use Rattle.chain_file.specs.Spelling.{cut, decimal_of, else_short, is_digit, is_leading, long_prefix_of, prefix_of, short_prefix_of, up_to, v4_of, v4_with, v6_of, v6_with}
 use Rattle.chain_file.proofs.KeptLists.{no_some, same_some}
 
 up_to_within : (limit n m : ℕ) → up_to limit n ≡ Some m → m ≤ limit

@@ -1,16 +1,14 @@
 -- What is read as a match object is one.
-use Rattle.std.proofs.Common.{◌≡◌, ℕ, ◌-◌, ◌≤◌, ◌<◌, Bool, true, false, nat_le, ◌&&◌, List, [], ◌∷◌, Option, Some, None, option_and_then, codes, if◌then◌else◌, refl, sym, ap, ◌∙◌, subst, arith, ℤ, pos, int_le}
-use Rattle.std.proofs.lemmas.Int.{ints}
+use Rattle.std.proofs.Common.{◌≡◌, ℕ, ◌-◌, ◌≤◌, Bool, true, false, nat_le, ◌&&◌, List, [], ◌∷◌, Option, Some, None, option_and_then, codes, if◌then◌else◌, refl, sym, ap, ◌∙◌, subst, arith, ℤ, pos, int_le}
 use Rattle.serde_json.specs.Data.{Data}
-use Rattle.serde_json.specs.Find.{as_i64, as_number, as_str, as_u64, get}
+use Rattle.serde_json.specs.Find.{as_i64, as_number, as_u64, get}
 use Rattle.onvm_base.specs.declared.limits.TheConstants.{MAX_PORTS, MAX_VLAN}
-use Rattle.onvm_base.specs.Plan.{AreTests, IsFrom}
+use Rattle.onvm_base.specs.Plan.{AreTests}
 use Rattle.chain_file.specs.declared.fault.Cause.{Cause}
 use Rattle.chain_file.specs.declared.fault.Cause.TheVariants.{Limit, Shape}
-use Rattle.chain_file.specs.declared.judged.Judged.{Judged}
 use Rattle.chain_file.specs.Causes.{unless}
 use Rattle.chain_file.specs.Matches.{are_in_order, can, integer_from, integer_of, pair_in, port_test, prefix_at, range_from, range_in, test, test_keys, tests_in}
-use Rattle.chain_file.specs.Values.{items, not_natural, number_from, number_in, only, right, whole, wrong}
+use Rattle.chain_file.specs.Values.{items, number_in, only, right, whole, wrong}
 use Rattle.chain_file.proofs.KeptLists.{no_cause, no_some, same_some, unless_none}
 use Rattle.chain_file.proofs.KeptPrefixes.{prefix_at_right}
 use Rattle.chain_file.proofs.Ranges.{number_in-IsFrom}
