@@ -44,7 +44,7 @@ fn prefixes_of_both_versions_and_names_of_chains(rt: HostRuntime) -> Result<(), 
     let plan = read(rt.alloc(), text, 0, &[])?;
     match &plan.functions.as_slice()[0].kind {
         Kind::Route { table } => {
-            let long = table.as_slice()[1];
+            let long = table.as_slice().get(1).expect(&rt, "no second entry");
             assert_eq!(rt;
                 long.prefix,
                 Prefix::V4 {
@@ -56,7 +56,7 @@ fn prefixes_of_both_versions_and_names_of_chains(rt: HostRuntime) -> Result<(), 
         }
         _ => assert!(rt; false, "no route"),
     }
-    let rule = plan.rules.as_slice()[0];
+    let rule = plan.rules.as_slice().first().expect(&rt, "no rule");
     assert_eq!(rt; (rule.chain, plan.default), (ChainId(1), ChainId(1)));
     assert_eq!(rt;
         rule.tests.src,
