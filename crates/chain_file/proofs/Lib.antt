@@ -1,0 +1,17 @@
+pub mod Cutting
+pub mod KeptChains
+pub mod KeptFunctions
+pub mod KeptKinds
+pub mod KeptLists
+pub mod KeptNames
+pub mod KeptPlan
+pub mod KeptPrefixes
+pub mod KeptTests
+pub mod Listing
+pub mod Pairs
+pub mod Places
+pub mod Ranges
+pub mod Sizing
+pub mod Stages
+pub mod Told
+pub mod Untold

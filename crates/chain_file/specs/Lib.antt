@@ -1,0 +1,13 @@
+pub mod Causes
+pub mod Chains
+pub mod File
+pub mod Functions
+pub mod Guests
+pub mod Kinds
+pub mod Matches
+pub mod Rules
+pub mod Spelling
+pub mod Top
+pub mod Values
+pub mod Words
+pub mod Written
