@@ -1,5 +1,5 @@
 -- The plan of the tests keeps the rules of a plan.
-use Rattle.std.proofs.Common.{◌≡◌, ◌≢◌, ◌∙◌, sym, ap, subst, refl, ℕ, zero, suc, ◌+◌, ◌<◌, ◌≤◌, Bool, true, false, Option, Some, List, [], ◌∷◌, ◌++◌, length, get_or, All, IsSome, arith}
+use Rattle.std.proofs.Common.{◌≡◌, ◌∙◌, sym, ap, subst, refl, ℕ, zero, suc, ◌+◌, ◌<◌, ◌≤◌, Bool, true, false, Some, List, [], ◌∷◌, length, All, arith}
 use Rattle.std.specs.List.{slice_get}
 use Rattle.std.proofs.lemmas.Bool.{true≢false}
 use Rattle.std.proofs.lemmas.Option.{none-some, same_Some, slice_get_within}
@@ -9,16 +9,13 @@ use Rattle.onvm_base.specs.declared.rules.RulePlan.{RulePlan}
 use Rattle.onvm_base.specs.declared.function.FunctionPlan.{FunctionPlan}
 use Rattle.onvm_base.specs.declared.function.Kind.{Kind}
 use Rattle.onvm_base.specs.declared.function.Kind.TheVariants as kind
-use Rattle.nf_api.specs.declared.guest.Guest.{Guest}
 use Rattle.nf_catalog.specs.Examples.{function_of, two_guests}
-use Rattle.nf_catalog.specs.Units.{AreHandedIn, guest_named}
-use Rattle.nf_catalog.proofs.Naming.{named_first, named_later}
 
-is_guest : Kind → Bool
+abbrev is_guest : Kind → Bool
 is_guest (kind.Guest name) = true
 is_guest _ = false
 
-name_in : Kind → List ℕ
+abbrev name_in : Kind → List ℕ
 name_in (kind.Guest name) = name
 name_in _ = []
 
@@ -73,7 +70,7 @@ functions_are =
     two_of (IsFunction 1) _ _ (guest_function 1 98 (omega arith) (omega arith) refl refl)
     (guest_function 2 97 (omega arith) (omega arith) refl refl)
 
-head_of : List ℕ → ℕ
+abbrev head_of : List ℕ → ℕ
 head_of [] = 0
 head_of (c ∷ cs) = c
 
@@ -97,15 +94,6 @@ functions_differ (suc i) zero f g lt here there = absurd (omega arith)
 functions_differ (suc zero) (suc zero) f g lt here there = absurd (omega arith)
 functions_differ (suc (suc i)) (suc zero) f g lt here there = absurd (omega arith)
 functions_differ (suc i) (suc (suc j)) f g lt here there = absurd (none-some g there)
-
--- three guests, of which the plan names the last two
-pub handed_in : {V : Type 0} {F : V → Type 0} (x y z : Guest V F) → x.name ≡ 99 ∷ [] → y.name ≡ 97 ∷ []
-    → z.name ≡ 98 ∷ [] → AreHandedIn two_guests (x ∷ y ∷ z ∷ [])
-handed_in x y z first second third =
-    two_of (λ function. (name : List ℕ) → function.kind ≡ kind.Guest name → IsSome (guest_named name (x ∷ y ∷ z ∷ [])))
-    _ _
-    (λ name is. subst (λ n. IsSome (guest_named n (x ∷ y ∷ z ∷ []))) (ap name_in is) (rw (first, second, third) refl))
-    (λ name is. subst (λ n. IsSome (guest_named n (x ∷ y ∷ z ∷ []))) (ap name_in is) (rw (first, second, third) refl))
 
 -- the numbers of the plan
 abbrev pub sizes : Sizes

@@ -12,7 +12,6 @@ use Rattle.nf_steady.specs.Kinds as steady
 use Rattle.nf_route.specs.Kinds as route
 use Rattle.nf_state.specs.Kinds.{ActsByState, Wants, first_state}
 use Rattle.nf_state.specs.Kinds as keeper
-use Rattle.nf_state.specs.declared.keeper.Keeper.{Keeper}
 use Rattle.nf_catalog.specs.declared.unit.UnitOf.{UnitOf}
 use Rattle.nf_catalog.specs.declared.unit.UnitOf.TheVariants as unit
 

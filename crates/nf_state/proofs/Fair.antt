@@ -1,8 +1,8 @@
 -- What assigning a port leaves of the mappings.
-use Rattle.std.proofs.Common.{◌≡◌, ◌≢◌, ◌∙◌, sym, ap, subst, refl, ℕ, ◌<◌, ◌≤◌, Option, Some, None, List, [], ◌∷◌, ◌++◌, length, inl, inr, ◌⊎◌}
+use Rattle.std.proofs.Common.{◌≡◌, ◌∙◌, sym, ap, subst, refl, ℕ, Option, Some, None, List, [], ◌∷◌, ◌++◌, length, inl, inr, ◌⊎◌}
 use Rattle.std.specs.List.{slice_get}
 use Rattle.std.proofs.lemmas.Option.{none-some}
-use Rattle.nf_state.specs.Mappings.{AreFair, Finds, IsFree, IsUnmapped, Assigns, Mapping, Maps, Opens, mapping}
+use Rattle.nf_state.specs.Mappings.{AreFair, IsFree, IsUnmapped, Assigns, Mapping, Maps, mapping}
 use Rattle.nf_state.specs.declared.mappings.Endpoint.{Endpoint}
 use Rattle.nf_state.proofs.Places.{get-push_cases, get-push_last, get-push_left}
 

@@ -1,10 +1,10 @@
 -- A packet is translated in one way.
-use Rattle.std.proofs.Common.{◌≡◌, ◌∙◌, sym, ap, subst, refl, ℕ, ◌+◌, ◌<◌, ◌≤◌, ◌==◌, if◌then◌else◌, Bool, true, false, Option, Some, None, List, [], ◌∷◌, ◌++◌, inl, inr, ◌⊎◌, arith}
+use Rattle.std.proofs.Common.{◌≡◌, ◌∙◌, sym, ap, subst, refl, ℕ, ◌==◌, if◌then◌else◌, Bool, true, false, Option, Some, None, List, [], ◌∷◌, ◌++◌, inl, inr, arith}
 use Rattle.std.specs.Bool.{MatchBool}
 use Rattle.std.proofs.lemmas.Bool.{cases_lt}
 use Rattle.onvm_base.specs.declared.outcome.Verdict.{Verdict}
 use Rattle.onvm_packet.specs.Holding.{covers_ipv4}
-use Rattle.nf_state.specs.Mappings.{AreFair, Assigns, IsLowestFree, Mapping, Maps, mapping}
+use Rattle.nf_state.specs.Mappings.{AreFair, Assigns, IsLowestFree, Mapping, mapping}
 use Rattle.nf_state.specs.Rewriting.{with_target}
 use Rattle.nf_state.specs.Segments.{is_whole, segment_of}
 use Rattle.nf_state.specs.Translating.{ComesIn, Enters, GoesOut, Held, IsFair, Leaves, Parameters, Stays, Translates, TranslatesSegment, TranslatesWhole, of_protocol, sender, with_protocol}

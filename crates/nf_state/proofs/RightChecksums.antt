@@ -1,6 +1,6 @@
 -- NAT leaves right checksums right.
-use Rattle.std.proofs.Common.{◌≡◌, ◌≢◌, ◌∙◌, sym, ap, subst, refl, ℕ, zero, suc, ◌+◌, ◌-◌, ◌*◌, ◌/◌, ◌%◌, ◌^◌, ◌<◌, ◌≤◌, ◌==◌, ◌||◌, nat_le, if◌then◌else◌, Bool, true, false, Option, Some, None, List, [], ◌∷◌, ◌++◌, length, take, drop, get_or, inl, inr, ◌⊎◌, arith}
-use Rattle.std.proofs.lemmas.Bool.{and_parts, cases_Bool, eqb-true, leb-true, true≢false}
+use Rattle.std.proofs.Common.{◌≡◌, ◌∙◌, sym, ap, subst, refl, ℕ, zero, suc, ◌+◌, ◌-◌, ◌*◌, ◌/◌, ◌%◌, ◌^◌, ◌<◌, ◌≤◌, ◌==◌, ◌||◌, nat_le, if◌then◌else◌, true, Option, Some, None, List, [], ◌∷◌, ◌++◌, length, drop, inl, inr, ◌⊎◌, arith}
+use Rattle.std.proofs.lemmas.Bool.{and_parts, cases_Bool, eqb-true, leb-true}
 use Rattle.std.proofs.lemmas.List.{get_or-drop, get_or-take}
 use Rattle.std.proofs.lemmas.Option.{none-some, same_Some}
 use Rattle.onvm_packet.specs.Bytes.{AreBytes, byte, number}
@@ -17,7 +17,7 @@ use Rattle.nf_state.specs.Checksums.{HasSum, IsRightSegment, covered_of, head_of
 use Rattle.nf_state.specs.Rewriting.{address_word, rewritten, with_source, with_target}
 use Rattle.nf_state.specs.Segments.{is_whole, needed, segment_by, segment_of}
 use Rattle.nf_state.specs.declared.segment.Segment.{Segment}
-use Rattle.nf_state.proofs.RightSums.{ArePlaced, IsRightHead, IsRightSum, covered_total, head_address, head_port, head_total, long_enough, sum_address, sum_port}
+use Rattle.nf_state.proofs.RightSums.{ArePlaced, IsRightHead, IsRightSum, covered_total, head_address, head_port, long_enough, sum_address, sum_port}
 use Rattle.nf_state.proofs.WordSums.{twice, window}
 
 -- what a segment that was read says of itself

@@ -1,5 +1,5 @@
 -- Right checksums stay right, word by word.
-use Rattle.std.proofs.Common.{◌≡◌, ◌≢◌, ◌∙◌, sym, ap, subst, refl, ℕ, zero, suc, ◌+◌, ◌-◌, ◌*◌, ◌/◌, ◌%◌, ◌<◌, ◌≤◌, ◌==◌, if◌then◌else◌, Bool, true, false, List, [], ◌∷◌, ◌++◌, length, take, drop, get_or, inl, inr, ◌⊎◌, arith}
+use Rattle.std.proofs.Common.{◌≡◌, ◌≢◌, ◌∙◌, sym, ap, subst, refl, ℕ, zero, suc, ◌+◌, ◌-◌, ◌%◌, ◌<◌, ◌≤◌, ◌==◌, if◌then◌else◌, false, List, length, drop, get_or, inl, inr, ◌⊎◌, arith}
 use Rattle.std.proofs.lemmas.Bool.{cases_Bool, eq-eqb, eqb-true, true≢false}
 use Rattle.std.proofs.lemmas.List.{get_or-drop}
 use Rattle.byteorder.specs.Endian.{big_bytes}
@@ -7,7 +7,7 @@ use Rattle.onvm_packet.specs.Bytes.{AreBytes, byte, number}
 use Rattle.onvm_packet.specs.Checksum.{updated_checksum, words}
 use Rattle.onvm_packet.proofs.Kept.{byte-before, length-with_bytes_at, number-behind}
 use Rattle.onvm_packet.proofs.Ones.{total, updated_checksum-fits, updated_checksum-keeps}
-use Rattle.nf_state.specs.Checksums.{HasSum, head_of}
+use Rattle.nf_state.specs.Checksums.{HasSum}
 use Rattle.nf_state.specs.Rewriting.{address_word, all_ones_for_zero, port_word, sum_at, updated_segment_checksum, updated_udp_checksum, with_head_sum, with_segment_sum, with_word}
 use Rattle.nf_state.specs.Segments.{needed}
 use Rattle.nf_state.specs.declared.segment.Segment.{Segment}

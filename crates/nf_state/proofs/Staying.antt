@@ -1,11 +1,11 @@
 -- What NAT leaves of the mappings that there are.
-use Rattle.std.proofs.Common.{◌≡◌, sym, ap, subst, ℕ, ◌==◌, if◌then◌else◌, Bool, true, false, Option, Some, None, List, Result, Ok, Err, IfOk, OnErr, inl, inr}
+use Rattle.std.proofs.Common.{◌≡◌, sym, subst, ℕ, ◌==◌, if◌then◌else◌, Bool, true, false, Option, Some, None, List, Result, Ok, Err, IfOk, OnErr, inl, inr}
 use Rattle.std.specs.Bool.{MatchBool}
 use Rattle.onvm_base.specs.declared.outcome.Verdict.{Verdict}
 use Rattle.onvm_packet.specs.Holding.{covers_ipv4}
 use Rattle.nf_state.specs.Mappings.{AreFair, Mapping, Maps}
 use Rattle.nf_state.specs.Segments.{is_whole, segment_of}
-use Rattle.nf_state.specs.Translating.{Enters, Held, IsFair, Leaves, Parameters, Stay, Translates, TranslatesSegment, TranslatesWhole, Translation, WantsFor, of_protocol, sender, with_protocol}
+use Rattle.nf_state.specs.Translating.{Enters, Held, IsFair, Leaves, Parameters, Stay, Translates, TranslatesSegment, TranslatesWhole, Translation, WantsFor, of_protocol, sender}
 use Rattle.nf_state.specs.declared.mappings.Endpoint.{Endpoint}
 use Rattle.nf_state.specs.declared.segment.Segment.{Segment}
 use Rattle.nf_state.proofs.Fair.{fair, stays}

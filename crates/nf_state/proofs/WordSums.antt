@@ -1,11 +1,10 @@
 -- A word that is written changes the sum of the words around it by just that.
-use Rattle.std.proofs.Common.{◌≡◌, ◌∙◌, sym, ap, subst, refl, ℕ, zero, suc, ◌+◌, ◌-◌, ◌*◌, ◌/◌, ◌%◌, ◌<◌, ◌≤◌, List, [], ◌∷◌, ◌++◌, length, take, drop, get_or, inl, inr, arith}
+use Rattle.std.proofs.Common.{◌≡◌, ◌∙◌, sym, ap, refl, ℕ, zero, suc, ◌+◌, ◌-◌, ◌*◌, ◌/◌, ◌%◌, ◌<◌, ◌≤◌, List, [], ◌∷◌, ◌++◌, length, take, drop, get_or, inl, inr, arith}
 use Rattle.std.proofs.lemmas.Bool.{cases_lt}
 use Rattle.std.proofs.lemmas.List.{drop-drop, drop-take, drop_at, get_or-drop, get_or-take, length-drop, length-take-le, take-append-le, take-take}
 use Rattle.byteorder.specs.Endian.{big_bytes}
 use Rattle.onvm_packet.specs.Bytes.{AreBytes, byte, number}
 use Rattle.onvm_packet.specs.Checksum.{words}
-use Rattle.onvm_packet.specs.Edits.{with_bytes_at}
 use Rattle.onvm_packet.proofs.Kept.{big_from-same, byte-before, byte-behind, byte-over, drop-with_bytes_at, take-with_bytes_at}
 use Rattle.onvm_packet.proofs.Ones.{total}
 use Rattle.nf_state.specs.Rewriting.{with_word}

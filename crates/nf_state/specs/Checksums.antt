@@ -1,7 +1,7 @@
 -- When the checksums that NAT updates are right.
 use Rattle.std.specs.Prelude.{◌≡◌, ◌≢◌, ℕ, ◌+◌, ◌-◌, List, ◌∷◌, ◌++◌, take, drop}
 use Rattle.onvm_packet.specs.Bytes.{number}
-use Rattle.onvm_packet.specs.Checksum.{IsRight, ones_sum, words}
+use Rattle.onvm_packet.specs.Checksum.{ones_sum, words}
 use Rattle.nf_state.specs.Rewriting.{sum_at}
 use Rattle.nf_state.specs.declared.segment.Segment.{Segment}
 

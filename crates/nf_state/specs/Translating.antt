@@ -1,5 +1,5 @@
 -- What NAT does with a packet.
-use Rattle.std.specs.Prelude.{◌≡◌, ◌⊎◌, ℕ, ◌+◌, ◌==◌, if◌then◌else◌, true, Option, Some, None, List, []}
+use Rattle.std.specs.Prelude.{◌≡◌, ◌⊎◌, ℕ, ◌==◌, if◌then◌else◌, true, Option, Some, None, List, []}
 use Rattle.std.specs.Bool.{MatchBool}
 use Rattle.onvm_base.specs.declared.rules.Prefix.{Prefix}
 use Rattle.onvm_base.specs.declared.outcome.Verdict.{Verdict}

@@ -20,19 +20,21 @@ pub struct Policer {
     pub bucket: Option<Bucket>,
 }
 
-// A token for each byte and nanosecond of a second.
-const BILLION: u64 = 1_000_000_000;
+// So many tokens are one byte: a nanosecond brings as many as bytes come in a second.
+const NANOS_PER_SECOND: u64 = 1_000_000_000;
 
 impl Policer {
     /// The verdict for a frame, whose bytes are taken off the bucket where there are enough.
     pub fn admit(&mut self, bytes: &[u8], stamp: Stamp) -> Verdict
-        ensures verdict { result ≡ verdict_of self.old.rate self.old.depth self.old.bucket (moment_of stamp) (length bytes.now) }
-        ensures after { self.new.bucket ≡ bucket_after self.old.rate self.old.depth self.old.bucket (moment_of stamp) (length bytes.now) }
+        ensures verdict { result
+            ≡ verdict_of self.old.rate self.old.depth self.old.bucket (moment_of stamp) (length bytes.now) }
+        ensures after { self.new.bucket
+            ≡ bucket_after self.old.rate self.old.depth self.old.bucket (moment_of stamp) (length bytes.now) }
         ensures rate { self.new.rate ≡ self.old.rate }
         ensures depth { self.new.depth ≡ self.old.depth }
     {
         let filled = filled(self.rate, self.depth, self.bucket, moment_of(stamp));
-        let price = bytes.len() as u128 * u128::from(BILLION);
+        let price = bytes.len() as u128 * u128::from(NANOS_PER_SECOND);
         if filled.tokens < price {
             self.bucket = Some(filled);
             return Verdict::Drop;
@@ -50,7 +52,7 @@ fn moment_of(stamp: Stamp) -> u64
     ensures is { result ≡ moment_of stamp }
     ensures small { result ≤ 2 ^ 63 }
 {
-    u64::from(stamp.seconds) * BILLION + u64::from(stamp.nanos)
+    u64::from(stamp.seconds) * NANOS_PER_SECOND + u64::from(stamp.nanos)
 }
 
 // The bucket at the moment of a frame: full at the first one.
@@ -58,7 +60,7 @@ fn filled(rate: u64, depth: u64, bucket: Option<Bucket>, moment: u64) -> Bucket
     requires { moment ≤ 2 ^ 63 }
     ensures { result ≡ filled rate depth bucket moment }
 {
-    let full = u128::from(depth) * u128::from(BILLION);
+    let full = u128::from(depth) * u128::from(NANOS_PER_SECOND);
     let Some(bucket) = bucket else {
         return Bucket {
             tokens: full,

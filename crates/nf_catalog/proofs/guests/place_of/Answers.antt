@@ -1,8 +1,7 @@
-use Rattle.std.proofs.Common.{◌≡◌, ◌∙◌, sym, ap, subst, refl, ◌+◌, drop, get_or, IsSome, Some, ◌∷◌, arith}
+use Rattle.std.proofs.Common.{◌∙◌, sym, ap, subst, refl, ◌+◌, drop, IsSome, Some, ◌∷◌, arith}
 use Rattle.std.proofs.lemmas.Bool.{true≢false}
 use Rattle.std.proofs.lemmas.List.{at_drop_all, drop_more}
 use Rattle.std.proofs.lemmas.Option.{slice_get-get_or}
-use Rattle.std.specs.List.{slice_get}
 use Rattle.nf_catalog.specs.Units.{guest_named}
 use Rattle.nf_catalog.proofs.Naming.{named_first, named_later}
 use Rattle.nf_catalog.proofs.guests.place_of.Goals as goal

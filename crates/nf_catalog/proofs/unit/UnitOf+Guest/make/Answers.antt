@@ -1,4 +1,4 @@
-use Rattle.std.proofs.Common.{◌∙◌, ap, sym, subst, Some}
+use Rattle.std.proofs.Common.{◌∙◌, ap, sym}
 use Rattle.onvm_base.specs.declared.function.Kind.TheVariants.{Guest as GuestKind}
 use Rattle.nf_catalog.specs.Units.{guest_named}
 use Rattle.nf_catalog.proofs.Naming.{has_name}

@@ -4,7 +4,6 @@ use Rattle.nf_api.specs.Answers.{ActsStatelessly}
 use Rattle.nf_steady.specs.Kinds as steady
 use Rattle.nf_route.specs.Kinds as route
 use Rattle.nf_catalog.specs.Units.{acts_of}
-use Rattle.nf_catalog.specs.declared.unit.UnitOf.{UnitOf}
 use Rattle.nf_catalog.proofs.unit.UnitOfNetFunction.handle.Goals as goal
 
 pub returns-in-Steady-clause-kept : goal.returns-in-Steady-clause-kept

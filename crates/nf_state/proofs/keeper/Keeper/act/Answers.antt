@@ -1,4 +1,4 @@
-use Rattle.std.proofs.Common.{ap, subst, sym, List}
+use Rattle.std.proofs.Common.{subst, sym}
 use Rattle.nf_state.specs.Kinds.{Wants}
 use Rattle.nf_state.specs.Segments.{segment_of}
 use Rattle.nf_state.specs.declared.keeper.Keeper.{Keeper}
