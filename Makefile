@@ -4,6 +4,7 @@ SHELL := /bin/bash
 program := crates/onvm_main/out/onvm_main
 functions := crates/nf_bench/out/nf_bench
 windows := crates/window_bench/out/window_bench
+board := crates/board_bench/out/board_bench
 sources := crates.txt $(shell find crates -name out -prune -o -type f '(' -name '*.rt' -o -name '*.antt' ')' -print)
 
 .PHONY: help test run bench build
@@ -12,8 +13,8 @@ help:
 	@echo 'make build   proves and builds the program, where a source is newer than it'
 	@echo 'make run     replays the first example, and prints what was emitted'
 	@echo "make test    the merge gate: every proof, test and must-fail edit, then the repository's own checks"
-	@echo 'make bench   the program beside other ones that copy captures, what functions cost per frame, and'
-	@echo '             what windows of samples cost; never part of a test'
+	@echo 'make bench   the program beside other ones that copy captures, what functions cost per frame,'
+	@echo '             and what windows of samples and the board cost; never part of a test'
 
 # The last line adds up what passed and what failed, also where a step failed and ended the rest.
 test:
@@ -25,10 +26,11 @@ test:
 run: $(program)
 	@sh checks/show.sh examples/01-one-frame
 
-bench: $(program) $(functions) $(windows)
+bench: $(program) $(functions) $(windows) $(board)
 	@python3 bench/replay.py
 	@$(functions) 1000
 	@$(windows) 1000
+	@$(board) 400
 
 build: $(program)
 
@@ -40,3 +42,6 @@ $(functions): $(sources)
 
 $(windows): $(sources)
 	@sh build.sh window_bench
+
+$(board): $(sources)
+	@sh build.sh board_bench
