@@ -2,12 +2,7 @@
 # Replays captures that are made here, of bytes altered in two examples and of many empty frames, with
 # ./onvm, and compares what it emits, says and answers with what is expected. Prints what is wrong
 # and ends with status 1, or else prints how many passed.
-cd "$(dirname "$0")/.." || exit 1
-make --no-print-directory -s build || exit 1
-room=$(mktemp -d) || exit 1
-trap 'rm -rf "$room"' EXIT
-passed=0
-wrong=0
+. "$(dirname "$0")/begin.sh"
 chain=examples/01-one-frame/chain.json
 low=examples/01-one-frame/one-frame.pcap
 high=examples/09-high-byte-first/one-frame.pcap

@@ -5,12 +5,7 @@
 # An example is a folder: command is one line, whose word OUT stands for a file of this check's own.
 # expected.pcap is what is emitted (without it nothing is created), expected.txt what is said
 # (without it nothing), status the exit status (without it 0).
-cd "$(dirname "$0")/.." || exit 1
-make --no-print-directory -s build || exit 1
-room=$(mktemp -d) || exit 1
-trap 'rm -rf "$room"' EXIT
-passed=0
-wrong=0
+. "$(dirname "$0")/begin.sh"
 
 complain() {
     echo "$folder: $1"

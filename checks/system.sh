@@ -1,12 +1,7 @@
 #!/bin/sh
 # Replays captures with ./onvm where the system refuses something: memory, or bytes of a file. Prints
 # what is wrong and ends with status 1, or else prints how many checks passed.
-cd "$(dirname "$0")/.." || exit 1
-make --no-print-directory -s build || exit 1
-room=$(mktemp -d) || exit 1
-trap 'rm -rf "$room"' EXIT
-passed=0
-wrong=0
+. "$(dirname "$0")/begin.sh"
 chain=examples/01-one-frame/chain.json
 
 # large_frames COUNT: a capture in the emitted spelling, of so many frames of 262,144 bytes, all 0, at
