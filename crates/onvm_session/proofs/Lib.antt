@@ -2,10 +2,15 @@ pub mod Accounted
 pub mod Closing
 pub mod LastRound
 pub mod Leading
+pub mod Passing
 pub mod Phasing
+pub mod Places
 pub mod Reading
 pub mod Rounds
 pub mod Serial
+pub mod SerialTicking
+pub mod Session
 pub mod Stepping
+pub mod TickTurns
 pub mod Turning
 pub mod Weaving
