@@ -1,5 +1,6 @@
 pub mod Accounted
 pub mod Closing
+pub mod Done
 pub mod LastRound
 pub mod Leading
 pub mod Passing
