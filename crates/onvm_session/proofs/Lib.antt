@@ -1,6 +1,9 @@
 pub mod Accounted
 pub mod Closing
 pub mod Done
+pub mod IdleAccount
+pub mod IdleRound
+pub mod IdleRun
 pub mod LastRound
 pub mod Leading
 pub mod Passing
