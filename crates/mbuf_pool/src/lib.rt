@@ -1,0 +1,12 @@
+//! One port's part of the pool.
+//!
+//! Only the port's receive role takes from a *part*; whoever holds a buffer may give it back.
+#![tactic(auto)]
+
+mod giving;
+mod part;
+#[cfg(test)]
+mod tests;
+
+pub use giving::{give, give_back, send};
+pub use part::Part;
