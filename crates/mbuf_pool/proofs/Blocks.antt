@@ -1,10 +1,9 @@
 -- A take is the second part of a receive role's block, and the third where it finds a buffer.
-use Rattle.std.proofs.Common.{◌≡◌, ◌≢◌, ◌∙◌, sym, ap, refl, subst, ℕ, zero, suc, ◌+◌, ◌-◌, ◌*◌, ◌/◌, ◌%◌, ◌<◌, ◌≤◌, List, [], ◌∷◌, ◌++◌, inr, arith, mod-lt, Option, Some, None}
-use Rattle.std.specs.Prelude.{◌==◌, if◌then◌else◌, IsBitSet}
+use Rattle.std.proofs.Common.{◌≡◌, ◌≢◌, ◌∙◌, sym, ap, refl, subst, ℕ, zero, suc, ◌+◌, ◌*◌, ◌/◌, ◌%◌, ◌<◌, ◌≤◌, ◌∷◌, ◌++◌, inr, arith, mod-lt, Some, None}
+use Rattle.std.specs.Prelude.{IsBitSet}
 use Rattle.std.proofs.lemmas.Bool.{ne_eqb}
 use Rattle.std.proofs.lemmas.Nat.Bits.{bit_at-zero}
 use Rattle.onvm_base.specs.declared.ids.BufId.{BufId}
-use Rattle.onvm_base.specs.declared.ids.FrameId.{FrameId}
 use Rattle.onvm_core.specs.declared.entry.Entry.{Entry}
 use Rattle.onvm_core.specs.declared.layout.Layout.{Layout}
 use Rattle.onvm_core.specs.declared.layout.Word.{Word}
@@ -13,14 +12,13 @@ use Rattle.onvm_core.specs.declared.step.Act.{Act}
 use Rattle.onvm_core.specs.declared.step.Act.TheVariants.{Look, Take}
 use Rattle.onvm_core.specs.Layouts.{bit_of}
 use Rattle.onvm_core.specs.Logs.{Setting, Log, entry_after}
-use Rattle.onvm_core.specs.Receiving.{ReceivePhase, receive_phase, receive_after, done_count, IsLowest, MayReceiveFor, MayReceive}
+use Rattle.onvm_core.specs.Receiving.{ReceivePhase, receive_phase, receive_after, done_count, IsLowest, MayReceiveFor}
 use Rattle.onvm_core.specs.Receiving.ReceivePhase.{Between, Seeks, Sees, Took}
 use Rattle.onvm_core.specs.Blocks.{kind_of, MayFollow, IsOfBlocks}
 use Rattle.onvm_core.specs.Blocks.RoleKind.{Receives}
-use Rattle.onvm_board.specs.Addresses.{part_words}
-use Rattle.onvm_board.specs.Tokens.{BoardView, TokenView, grown}
+use Rattle.onvm_board.specs.Tokens.{BoardView, TokenView}
 use Rattle.onvm_board.proofs.Judgements.{bit_of_set}
-use Rattle.mbuf_pool.specs.Parts.{part_word, last_index, zero_looks, looks_to, last_look, TakesLowest, FindsNone}
+use Rattle.mbuf_pool.specs.Parts.{part_word, last_index, zero_looks, last_look, TakesLowest, FindsNone}
 
 -- Numbers
 

@@ -11,7 +11,8 @@ use crate::giving::{give, give_back, send};
 use crate::part::Part;
 use desc_ring::{Head, Tail};
 use onvm_base::{
-    BufId, ChainId, FnId, FrameId, NoMemory, Outcome, Packet, PortId, Record, RingId, Stamp, Verdict,
+    BufId, ChainId, FnId, FrameId, NoMemory, Outcome, Packet, PortId, Record, RingId, Stamp,
+    Verdict,
 };
 use onvm_board::{Board, Token};
 use onvm_core::{Crumb, Layout, Parcel, Trail};
@@ -221,8 +222,9 @@ fn a_lane_of_64_is_full_with_64_of_65_buffers_and_gives_them_back_in_order(rt: H
     let mut head = Head::at(&board, lane, 64);
     let mut receive = board.split(&mut first, 0);
     let mut core = board.split(&mut first, 2);
-    let entered =
-        enter_all(rt.alloc(), &board, &mut receive, &part, &mut tail).expect(&rt, "memory");
+    let entered = enter_all(rt.alloc(), &board, &mut receive, &part, &mut tail).expect(
+        &rt, "memory",
+    );
     assert_eq!(rt; entered, 64);
     assert!(rt; tail.room(&board, &mut receive).is_err());
     assert!(rt; tail.at_least(&board, &mut receive, 64));

@@ -1,4 +1,4 @@
-use Rattle.std.proofs.Common.{◌<◌, ◌≤◌, arith, refl}
+use Rattle.std.proofs.Common.{◌<◌, arith, refl}
 use Rattle.std.proofs.lemmas.List.Elements.{All-replicate}
 use Rattle.mbuf_pool.proofs.tests.layout.Goals as goal
 
