@@ -1,0 +1,12 @@
+pub mod Acts
+pub mod Answers
+pub mod Follows
+pub mod Kept
+pub mod Lines
+pub mod Passes
+pub mod Rests
+pub mod Roles
+pub mod Sampling
+pub mod Stretches
+pub mod Ticks
+pub mod Times
