@@ -75,7 +75,7 @@ impl Part {
         ensures taken { MakesStep board.now (Take result) token.old token.new }
     {
         let bit = seen.trailing_zeros() as u16;
-        let buf = BufId(u16::from(self.port.0) * self.buffers + WORD_BITS * u16::from(index) + bit);
+        let buf = BufId(self.port.0 as u16 * self.buffers + WORD_BITS * index as u16 + bit);
         board.take(token, buf);
         buf
     }
