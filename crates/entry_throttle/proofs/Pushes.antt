@@ -1,4 +1,4 @@
--- For callers: a feeder after a push on one of its lanes.
+-- For callers: a feeder, and the moments that it keeps, after a push on one of its lanes.
 use Rattle.std.proofs.Common.{◌≡◌, ◌≢◌, ◌∙◌, sym, ap, subst, ℕ, ◌+◌, ◌-◌, ◌<◌, ◌≤◌, Bool, true, false, List, [], ◌∷◌, ◌++◌, length, inl, inr, arith, length-append, length-drop, Option, Some, None}
 use Rattle.std.specs.Prelude.{◌==◌, ◌&&◌, if◌then◌else◌, min, slice_index_or, slice_set}
 use Rattle.std.proofs.lemmas.Bool.{cases_order, ne_eqb}
@@ -9,17 +9,19 @@ use Rattle.onvm_core.specs.declared.step.Item.{Item}
 use Rattle.onvm_core.specs.declared.step.Act.TheVariants.{Push}
 use Rattle.onvm_core.specs.Layouts.{same_ring}
 use Rattle.onvm_core.specs.History.{pushes}
-use Rattle.onvm_core.specs.Logs.{push_count}
+use Rattle.onvm_core.specs.Logs.{Log, push_count}
 use Rattle.onvm_core.proofs.Lists.{if_met, if_unmet}
 use Rattle.onvm_board.specs.declared.spot.Spot.{Spot}
 use Rattle.onvm_board.specs.Known.{post_count_in}
 use Rattle.onvm_board.specs.Tokens.{BoardView, TokenView, IsTail, MakesStep}
 use Rattle.onvm_board.proofs.Soundness.{same_ring_one}
 use Rattle.onvm_board.proofs.Stretches.{tail_kept}
-use Rattle.watermark.specs.Moments.{PushMoments, no_moments, pushed_at}
+use Rattle.watermark.specs.Moments.{PushMoments, last_of, no_moments, pushed_at}
+use Rattle.watermark.proofs.Moments.{last_of-push}
 use Rattle.entry_throttle.specs.Feeders.{FeederView, IsFeederOf, pushed_on_lane}
 use Rattle.entry_throttle.specs.Lanes.{IsOwnEnd, KeepsEnough}
 use Rattle.entry_throttle.specs.Looks.{lane}
+use Rattle.entry_throttle.specs.Moments.{KeepsMoments, push_moments}
 
 -- lanes of two functions are two rings
 pub lanes_apart : (f g p q : ℕ) → f ≢ g → same_ring (lane f p) (lane g q) ≡ false
@@ -139,3 +141,41 @@ feeder_after_push board feeder f now spot item before after was under long made 
           ];
       numbered = ap (post_count_in (PostWord feeder.number)) log ∙ was.numbered;
     }
+
+-- the moments that it keeps, where it takes note of the push at its moment
+pub moments_after_push : (moment : ℕ → ℕ) (feeder : FeederView) (f now : ℕ) (spot : Spot) (item : Item) (before : Log)
+    → f < length feeder.ages → 0 < feeder.high → moment (length before) ≡ now → KeepsMoments moment feeder before
+    → KeepsMoments moment (pushed_on_lane f spot now feeder) (Push (lane f feeder.number) item ∷ before)
+moments_after_push moment feeder f now spot item before under some at was g d inside =
+    let within : g < length feeder.ages =
+    subst (λ (n : ℕ). g < n) (length-set feeder.ages f (pushed_at now (slice_index_or feeder.ages f (no_moments 0)))) inside in
+    let kept : PushMoments = slice_index_or feeder.ages f (no_moments 0) in
+    let keep : List ℕ → PushMoments = λ xs. record { high = feeder.high; moments = last_of feeder.high xs } in
+    let ring : RingId = lane f feeder.number in
+    let ms : List ℕ = push_moments ring moment before in
+    elim (cases_order f g) [
+      | inl e ↦
+          subst (λ (h : ℕ). slice_index_or (slice_set feeder.ages f (pushed_at now kept)) h d
+          ≡ keep (push_moments (lane h feeder.number) moment (Push ring item ∷ before))) e
+          (get_or-set_same feeder.ages f (pushed_at now kept) d under
+          ∙ ap (pushed_at now) (was f (no_moments 0) under)
+          ∙ ap (λ (xs : List ℕ). record { high = feeder.high; moments = xs }) (last_of-push feeder.high ms now some)
+          ∙ ap (λ (m : ℕ). keep (ms ++ m ∷ [])) (sym at)
+          ∙ ap keep (sym (if_met (same_ring ring ring) (ms ++ moment (length before) ∷ []) ms (same_ring_one ring))))
+      | inr (inl lower) ↦ other g d within (λ e. omega (arith, e, lower))
+      | inr (inr upper) ↦ other g d within (λ e. omega (arith, e, upper))
+    ]
+  where
+    other : (g : ℕ) (d : PushMoments) → g < length feeder.ages → f ≢ g
+        → slice_index_or (slice_set feeder.ages f (pushed_at now (slice_index_or feeder.ages f (no_moments 0)))) g d
+        ≡ record {
+          high = feeder.high;
+          moments = last_of feeder.high (push_moments (lane g feeder.number) moment (Push (lane f feeder.number) item ∷ before));
+        }
+    other g d within ne =
+        let ms : List ℕ = push_moments (lane g feeder.number) moment before in
+        get_or-set_other feeder.ages f g (pushed_at now (slice_index_or feeder.ages f (no_moments 0))) d (λ e. ne (sym e))
+        ∙ was g d within
+        ∙ ap (λ (xs : List ℕ). record { high = feeder.high; moments = last_of feeder.high xs })
+        (sym (if_unmet (same_ring (lane f feeder.number) (lane g feeder.number)) (ms ++ moment (length before) ∷ []) ms
+        (ap (λ (b : Bool). b && (feeder.number == feeder.number)) (ne_eqb f g ne))))

@@ -1,6 +1,8 @@
 -- What an admission adds to its token.
 use Rattle.std.specs.Prelude.{ℕ, zero, suc, ◌≡◌, ◌/◌, ◌^◌, ◌<◌, ◌==◌, if◌then◌else◌, IsBitSet, List, [], ◌∷◌, length, None, Some}
 use Rattle.onvm_base.specs.declared.ids.FrameId.{FrameId}
+use Rattle.onvm_base.specs.declared.outcome.Outcome.TheVariants.{Throttled}
+use Rattle.onvm_base.specs.declared.outcome.Record.{Record}
 use Rattle.onvm_base.specs.Moves.{IsOfChain}
 use Rattle.onvm_core.specs.declared.entry.Entry.{Entry}
 use Rattle.onvm_core.specs.declared.layout.Word.TheVariants.{Post}
@@ -8,7 +10,7 @@ use Rattle.onvm_core.specs.declared.step.Act.TheVariants.{Look}
 use Rattle.onvm_core.specs.Logs.{Log, Setting, feeder_count}
 use Rattle.onvm_core.specs.Receiving.{ReceivePhase}
 use Rattle.onvm_core.specs.Receiving.ReceivePhase.{Between, Asks, Seeks}
-use Rattle.onvm_board.specs.Asking.{IsLowestHeld, masked_bits, throttle_record}
+use Rattle.onvm_board.specs.Asking.{IsLowestHeld, masked_bits}
 use Rattle.onvm_board.specs.Tokens.{TokenView, token_after}
 use Rattle.entry_throttle.specs.declared.answer.Admit.{Admit}
 use Rattle.entry_throttle.specs.declared.answer.Admit.TheVariants.{Go, Hold}
@@ -31,6 +33,11 @@ pub record FoundNone (feeders mask : ℕ) (before after : TokenView) : Type 0 wh
   pub free : AreWithout mask values
   pub grew : after ≡ token_after_asks values before
 
+-- the record of a frame that a feeder's post holds back for a function
+abbrev pub held_record : FrameId → (feeder post function : ℕ) → Record
+held_record frame feeder post function =
+    record { frame = frame; outcome = Throttled feeder post (record { 0 = function }) }
+
 -- the posts before this feeder's had no bit of the mask, and its look recorded the frame as throttled, by the post's number
 -- and the lowest function of the mask that it has
 pub record IsHeldBack (frame : FrameId) (mask feeder post function : ℕ) (before after : TokenView) : Type 0 where
@@ -41,7 +48,7 @@ pub record IsHeldBack (frame : FrameId) (mask feeder post function : ℕ) (befor
   pub number : post ≡ seen / 2 ^ 32
   pub lowest : IsLowestHeld mask seen function
   pub grew : after
-      ≡ token_after (Look (Post feeder) seen (Some (throttle_record frame feeder mask seen)))
+      ≡ token_after (Look (Post feeder) seen (Some (held_record frame feeder post function)))
       (token_after_asks values before)
 
 abbrev pub IsAnswer : FrameId → (mask feeders : ℕ) → (before after : TokenView) → Admit → Type 0
