@@ -1,16 +1,19 @@
 -- One look back at a lane.
-use Rattle.std.proofs.Common.{◌≡◌, ◌∙◌, sym, ap, refl, subst, ℕ, ◌-◌, ◌%◌, ◌<◌, ◌≤◌, Bool, false, ◌∷◌, inl, inr, arith}
+use Rattle.std.proofs.Common.{◌≡◌, ◌∙◌, sym, ap, refl, subst, ℕ, ◌-◌, ◌%◌, ◌<◌, ◌≤◌, Bool, false, [], ◌∷◌, inl, inr, arith}
 use Rattle.std.specs.Prelude.{Option, None, Some, not, ◌==◌, ◌&&◌, nat_le, if◌then◌else◌}
 use Rattle.std.proofs.lemmas.Bool.{cases_Bool, leb-true, leb-false}
 use Rattle.onvm_base.specs.declared.ids.RingId.{RingId}
 use Rattle.onvm_core.specs.declared.layout.Word.{Word}
 use Rattle.onvm_core.specs.declared.layout.Word.TheVariants.{Cell}
+use Rattle.onvm_core.specs.declared.step.Act.{Act}
 use Rattle.onvm_core.specs.declared.step.Act.TheVariants.{Look}
+use Rattle.onvm_core.specs.History.{pops, pushes}
 use Rattle.onvm_core.specs.Layouts.{ring_size}
 use Rattle.onvm_core.specs.Logs.{Log, push_count}
 use Rattle.onvm_board.specs.declared.spot.Spot.{Spot}
 use Rattle.onvm_board.specs.Known.{post_count_in}
-use Rattle.onvm_board.specs.Tokens.{BoardView, TokenView, token_after}
+use Rattle.onvm_board.specs.Tokens.{BoardView, MakesStep, TokenView}
+use Rattle.onvm_board.proofs.Stretches.{head_kept, tail_kept}
 use Rattle.desc_ring.specs.Ends.{Finds, LeavesEnds, cell_back}
 use Rattle.entry_throttle.specs.Lanes.{IsOwnEnd, OnlyLooked}
 
@@ -86,3 +89,23 @@ pub end_looked : (board : BoardView) (ring : RingId) (end : Option Spot) (before
     → IsOwnEnd board ring end after
 end_looked board ring None before after only leaves is = only.pushes ring ∙ is
 end_looked board ring (Some spot) before after only leaves is = (is.0, leaves.tails spot is.1)
+
+-- Ends that stay
+
+pub leaves_all : (board : BoardView) (token : TokenView) → LeavesEnds board token token
+leaves_all board token = record { tails = λ spot is. is; heads = λ spot is. is }
+
+pub leaves_twice : (board : BoardView) (one two three : TokenView) → LeavesEnds board one two → LeavesEnds board two three
+    → LeavesEnds board one three
+leaves_twice board one two three x y = record {
+  tails = λ spot is. y.tails spot (x.tails spot is);
+  heads = λ spot is. y.heads spot (x.heads spot is);
+}
+
+pub step_leaves : (board : BoardView) (act : Act) (before after : TokenView) → MakesStep board act before after
+    → ((ring : RingId) → pushes ring act ≡ []) → ((ring : RingId) → pops ring act ≡ [])
+    → LeavesEnds board before after
+step_leaves board act before after made no_push no_pop = record {
+  tails = λ spot is. tail_kept board spot act before after (no_push spot.ring) is made;
+  heads = λ spot is. head_kept board spot act before after (no_pop spot.ring) is made;
+}

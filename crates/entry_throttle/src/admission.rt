@@ -1,6 +1,7 @@
 //! Whether a frame may enter.
 ghost use Rattle.std.specs.Prelude.{◌≡◌};
 ghost use Rattle.onvm_board.specs.Addresses.{feeder_count};
+ghost use Rattle.desc_ring.specs.Ends.{LeavesEnds};
 ghost use Rattle.entry_throttle.specs.Admissions.{IsAnswer};
 
 use crate::answer::Admit;
@@ -18,6 +19,7 @@ pub fn admit(board: &Board, token: &mut Token, frame: FrameId, mask: u32, feeder
     ensures hand { token.new.hand ≡ token.old.hand }
     ensures board { token.new.board ≡ token.old.board }
     ensures role { token.new.role ≡ token.old.role }
+    ensures ends { LeavesEnds board.now token.old token.new }
 {
     for feeder in 0..feeders {
         let ask = Ask::Hold { feeder, mask };

@@ -7,6 +7,7 @@ ghost use Rattle.onvm_core.specs.declared.step.Item.{Item};
 ghost use Rattle.onvm_core.specs.Logs.{Setting};
 ghost use Rattle.onvm_core.specs.Marks.{Ages as Answers};
 ghost use Rattle.onvm_board.specs.Tokens.{BoardView, IsTail, MakesStep, TokenView};
+ghost use Rattle.desc_ring.specs.Ends.{LeavesEnds};
 ghost use Rattle.entry_throttle.specs.Looks.{lane};
 ghost use Rattle.entry_throttle.specs.Feeders.{IsFeederOf, IsNewFeeder, IsReady, MadeMarksPass, pushed_on_lane};
 ghost use Rattle.entry_throttle.specs.Throttles.{posted_bits};
@@ -136,6 +137,7 @@ pub fn marks_pass(feeder: &mut Feeder, board: &Board, token: &mut Token, now: u6
         → MadeMarksPass setting aged now feeder.old feeder.new token.old token.new }
     ensures feeder { IsFeederOf board.now feeder.new token.new }
     ensures hand { token.new.hand ≡ token.old.hand }
+    ensures ends { LeavesEnds board.now token.old token.new }
     ensures same { feeder.new ≡ record feeder.old {
       marks = feeder.new.marks;
       posts = feeder.new.posts;

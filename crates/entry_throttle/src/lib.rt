@@ -12,8 +12,6 @@ mod answer;
 mod feeder;
 mod post_word;
 mod reading;
-
-
 mod throttles;
 
 pub use admission::admit;

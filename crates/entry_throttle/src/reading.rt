@@ -83,6 +83,7 @@ pub(crate) fn read_lanes(
     ensures alike { OnFalse result (ThrottleTheSame marks.old marks.new) }
     ensures looked { OnlyLooked token.old token.new }
     ensures ends { AreOwnEnds board.now ends.now token.new }
+    ensures leaves { LeavesEnds board.now token.old token.new }
 {
     let mut changed = false;
     for f in 0..ends.len() {

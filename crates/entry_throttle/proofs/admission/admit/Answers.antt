@@ -1,9 +1,10 @@
-use Rattle.std.proofs.Common.{◌≡◌, ◌≢◌, ap, sym, subst, ◌∙◌, ℕ, ◌/◌, ◌^◌}
+use Rattle.std.proofs.Common.{◌≡◌, ◌≢◌, refl, ap, sym, subst, ◌∙◌, ℕ, ◌/◌, ◌^◌}
 use Rattle.std.specs.Prelude.{bit_and}
 use Rattle.std.specs.Int.{trailing_zeros, w32}
 use Rattle.onvm_board.specs.Asking.{masked_bits}
 use Rattle.entry_throttle.specs.Admissions.{IsHeldBack}
 use Rattle.entry_throttle.proofs.Asks.{held_back, one_asked}
+use Rattle.entry_throttle.proofs.LookBack.{leaves_twice, step_leaves}
 use Rattle.entry_throttle.proofs.admission.admit.Goals as goal
 
 pub returns-then-held-ne0-clause-answer : goal.returns-then-held-ne0-clause-answer
@@ -35,5 +36,16 @@ loop-feeder-preserved c =
           c.judge-seen.ensures.looked;
       board = ap (λ t. t.board) grew ∙ invariant.board;
       role = ap (λ t. t.role) grew ∙ invariant.role;
+      ends =
+          leaves_twice c.args.board.now c.args.token.now c.loop-feeder.token c.judge-seen.new.token invariant.ends
+          (step_leaves c.args.board.now _ c.loop-feeder.token c.judge-seen.new.token c.judge-seen.ensures.looked
+          (λ ring. refl) (λ ring. refl));
       hand = ap (λ t. t.hand) grew ∙ invariant.hand;
     }
+
+pub returns-then-held-ne0-clause-ends : goal.returns-then-held-ne0-clause-ends
+returns-then-held-ne0-clause-ends c =
+    leaves_twice c.args.board.now c.args.token.now c.loop-feeder.token c.judge-seen.new.token
+    c.loop-feeder.invariant.ends
+    (step_leaves c.args.board.now _ c.loop-feeder.token c.judge-seen.new.token c.judge-seen.ensures.looked
+    (λ ring. refl) (λ ring. refl))

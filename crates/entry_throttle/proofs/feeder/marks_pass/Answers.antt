@@ -1,4 +1,4 @@
-use Rattle.std.proofs.Common.{◌+◌, ◌≤◌, ℕ, length, sym, ap, ◌∙◌, subst, arith, inl, inr}
+use Rattle.std.proofs.Common.{◌+◌, ◌≤◌, refl, ℕ, length, sym, ap, ◌∙◌, subst, arith, inl, inr}
 use Rattle.std.specs.Prelude.{[], ◌∷◌, ◌++◌}
 use Rattle.std.proofs.lemmas.List.{with_items_is}
 use Rattle.onvm_base.specs.declared.limits.TheConstants.{LAST_POST}
@@ -8,6 +8,7 @@ use Rattle.onvm_core.specs.declared.step.Act.TheVariants.{Post as PostAct}
 use Rattle.onvm_board.specs.Tokens.{TokenView}
 use Rattle.entry_throttle.specs.Feeders.{FeederView}
 use Rattle.entry_throttle.specs.Throttles.{posted_bits, set_of}
+use Rattle.entry_throttle.proofs.LookBack.{leaves_twice, step_leaves}
 use Rattle.entry_throttle.proofs.PassMade.{alike_like, made_post, made_quiet, marks_like, others_like, read_like}
 use Rattle.entry_throttle.proofs.feeder.marks_pass.Goals as goal
 
@@ -72,3 +73,10 @@ returns-clause-passed c setting aged ready =
     (others_like c.read_lanes-changed.result _ feeder.marks c.read_lanes-changed.new.marks _
     c.if-not-is_owed.ensures.owed.0 old_marks (sym marks_are) c.read_lanes-changed.ensures.others)
     (omega (arith, c.if-not-is_owed.ensures.owed.1, made))
+
+pub returns-clause-ends : goal.returns-clause-ends
+returns-clause-ends c =
+    leaves_twice c.args.board.now c.args.token.now c.read_lanes-changed.new.token c.post.new.token
+    c.read_lanes-changed.ensures.leaves
+    (step_leaves c.args.board.now _ c.read_lanes-changed.new.token c.post.new.token c.post.ensures.posted
+    (λ ring. refl) (λ ring. refl))

@@ -9,7 +9,7 @@ use Rattle.onvm_board.specs.Tokens.{TokenView}
 use Rattle.entry_throttle.specs.Lanes.{HasReadLanes, IsOwnEnd, OnlyLooked}
 use Rattle.entry_throttle.specs.Looks.{lane}
 use Rattle.entry_throttle.proofs.Lanes.{changed_on, enough_kept, lane_read, look_like}
-use Rattle.entry_throttle.proofs.LookBack.{LookAdds, end_looked, look_adds, only_looked, only_looked_twice}
+use Rattle.entry_throttle.proofs.LookBack.{LookAdds, end_looked, leaves_twice, look_adds, only_looked, only_looked_twice}
 use Rattle.entry_throttle.proofs.reading.read_lanes.Goals as goal
 
 pub loop-f-preserved : goal.loop-f-preserved
@@ -72,6 +72,9 @@ loop-f-preserved c =
           (end_looked c.args.board.now (lane g one.role) (slice_index_or c.args.ends.now g d) one two looked_high c.holds-high.ensures.ends
           (was.ends g d under)));
       enough = λ g d under. enough_kept one three g c.args.limits.high (slice_index_or c.args.ages.now g d) looked (was.enough g d under);
+      leaves =
+          leaves_twice c.args.board.now c.args.token.now one three was.leaves
+          (leaves_twice c.args.board.now one two three c.holds-high.ensures.ends c.holds-low.ensures.ends);
       looked = only_looked_twice c.args.token.now one three was.looked looked;
       long = length-set c.loop-f.marks f c.next-mark.result ∙ was.long;
     }
