@@ -1,0 +1,13 @@
+pub mod Asks
+pub mod Blocks
+pub mod Lanes
+pub mod LookBack
+pub mod MarksPasses
+pub mod OtherActs
+pub mod PassLooks
+pub mod PassMade
+pub mod PostOwed
+pub mod PushTimes
+pub mod Pushes
+pub mod SetBits
+pub mod Starts

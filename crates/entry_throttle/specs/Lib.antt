@@ -1,0 +1,6 @@
+pub mod Admissions
+pub mod Feeders
+pub mod Lanes
+pub mod Looks
+pub mod Moments
+pub mod Throttles
