@@ -4,9 +4,12 @@
 //! for a frame picks its chain.
 #![tactic(auto)]
 
+mod compiled;
 pub mod laws;
 mod matching;
 #[cfg(test)]
 mod tests;
+mod typed;
 
+pub use compiled::Compiled;
 pub use matching::first;
