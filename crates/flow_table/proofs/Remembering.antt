@@ -17,7 +17,7 @@ use Rattle.rule_match.proofs.Picked.{first_chain-same}
 use Rattle.rule_match.specs.Rules.{first_chain}
 use Rattle.flow_table.specs.Flows.{Remembers}
 
-abbrev key_eq : FlowKey → FlowKey → Bool
+abbrev pub key_eq : FlowKey → FlowKey → Bool
 key_eq = key_impl.ghosts.eq
 
 abbrev Flow : Type 0
@@ -59,8 +59,8 @@ module _ (port : PortId) (rules : List RulePlan) where
         | inr put ↦ λ others same.
             put.0
             ∙ right_of_key heads flow.0
-              (elim put.1 [ | inl own ↦ own | inr equal ↦ sym (same_key key flow.0 equal.2) ])
-              others same
+            (elim put.1 [ inl own ↦ own | inr equal ↦ sym (same_key key flow.0 equal.2) ])
+            others same
       ]
 
   -- a put of what the rules pick, done or refused, leaves all right

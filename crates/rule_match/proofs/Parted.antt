@@ -78,12 +78,12 @@ found_place types own (Ok at) rise position =
 found_place types own (Err at) rise position =
     let gap = searched types own (Err at) position (rises types rise) in
     λ asked has same.
-      let is : own ≡ asked = same_Some own asked same in
-      let there : get_or types has.0 0 ≡ asked = get_or_default types has.0 0 asked has.1 ∙ has.2 in
-      elim (cases_lt has.0 at) [
-        | inl before ↦ absurd (omega (arith, gap.1 has.0 before, there, is))
-        | inr after ↦ absurd (omega (arith, gap.2 has.0 after has.1, there, is))
-      ]
+    let is : own ≡ asked = same_Some own asked same in
+    let there : get_or types has.0 0 ≡ asked = get_or_default types has.0 0 asked has.1 ∙ has.2 in
+    elim (cases_lt has.0 at) [
+      | inl before ↦ absurd (omega (arith, gap.1 has.0 before, there, is))
+      | inr after ↦ absurd (omega (arith, gap.2 has.0 after has.1, there, is))
+    ]
 
 push_cases : {A : Type 0} (xs : List A) (x y : A) (at : ℕ) → slice_get (xs ++ x ∷ []) at ≡ Some y
     → ((at < length xs) × (slice_get xs at ≡ Some y)) ⊎ ((at ≡ length xs) × (x ≡ y))

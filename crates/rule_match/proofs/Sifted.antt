@@ -34,7 +34,6 @@ module _ (port : PortId) (heads : Heads) (rule : RulePlan) (holds : rule_holds p
   holds_of_port = (and_parts _ _ (and_parts _ _ through_type).0).0
 
 module _ (keep : RulePlan → Bool) (port : PortId) (heads : Heads) where
-
   first_chain-filter : (rules : List RulePlan)
       → ((rule : RulePlan) → Contains rules rule → rule_holds port heads rule ≡ true → keep rule ≡ true)
       → first_chain (filter keep rules) port heads ≡ first_chain rules port heads
@@ -60,7 +59,7 @@ pub first_chain-of_port : (rules : List RulePlan) (lists : List (List RulePlan))
 first_chain-of_port rules lists port heads list parted there =
     ap (λ (l : List RulePlan). first_chain l port heads) (parted port.0 list there)
     ∙ first_chain-filter (can_be_of_port port.0) port heads rules
-      (λ rule has holds. holds_of_port port heads rule holds)
+    (λ rule has holds. holds_of_port port heads rule holds)
 
 -- what a rule asks for that can hold for this type, or none
 asks_this : (ethertype asked : Option ℕ) (wanted : ℕ) → asked ≡ Some wanted
@@ -77,12 +76,12 @@ module _ (rules : List RulePlan) (types : List ℕ) (lists : List (List RulePlan
       → list ≡ get_or lists at list → first_chain list port heads ≡ first_chain rules port heads
   first_chain-of_type at list place is =
       let same : list ≡ filter (can_have_type heads.ethertype) rules =
-          is ∙ ap (λ (l : List (List RulePlan)). get_or l at list) parted.lists_are
-          ∙ get_or-map (λ ethertype. filter (can_have_type (Some ethertype)) rules) types at 0 list place.within
-          ∙ ap (λ (o : Option ℕ). filter (can_have_type o) rules) (sym place.same) in
+      is ∙ ap (λ (l : List (List RulePlan)). get_or l at list) parted.lists_are
+      ∙ get_or-map (λ ethertype. filter (can_have_type (Some ethertype)) rules) types at 0 list place.within
+      ∙ ap (λ (o : Option ℕ). filter (can_have_type o) rules) (sym place.same) in
       ap (λ (l : List RulePlan). first_chain l port heads) same
       ∙ first_chain-filter (can_have_type heads.ethertype) port heads rules
-        (λ rule has holds. holds_of_type port heads rule holds)
+      (λ rule has holds. holds_of_type port heads rule holds)
 
   asks_for_none : IsOther types heads.ethertype → (rule : RulePlan) → Contains rules rule → (asked : Option ℕ)
       → rule.tests.ethertype ≡ asked → can_have_type heads.ethertype rule ≡ true → can_have_type None rule ≡ true
@@ -98,4 +97,4 @@ module _ (rules : List RulePlan) (types : List ℕ) (lists : List (List RulePlan
   first_chain-of_others other =
       ap (λ (l : List RulePlan). first_chain l port heads) parted.others_are
       ∙ first_chain-filter (can_have_type None) port heads rules
-        (λ rule has holds. asks_for_none other rule has rule.tests.ethertype refl (holds_of_type port heads rule holds))
+      (λ rule has holds. asks_for_none other rule has rule.tests.ethertype refl (holds_of_type port heads rule holds))
