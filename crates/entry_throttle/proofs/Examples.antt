@@ -1,9 +1,9 @@
 -- The plan of the tests keeps the rules of a plan.
-use Rattle.std.proofs.Common.{◌≡◌, ◌∙◌, sym, ap, subst, refl, ℕ, zero, suc, ◌<◌, ◌≤◌, Bool, true, false, Some, List, [], ◌∷◌, length, All, arith}
+use Rattle.std.proofs.Common.{◌≡◌, ◌∙◌, sym, ap, subst, refl, ℕ, zero, suc, ◌<◌, Bool, true, false, Some, List, [], ◌∷◌, length, All, arith}
 use Rattle.std.specs.List.{slice_get}
 use Rattle.std.proofs.lemmas.Bool.{true≢false}
 use Rattle.std.proofs.lemmas.Option.{slice_get_within}
-use Rattle.onvm_base.specs.Plan.{AreDifferent, AreSizes, IsChainPlan, IsFunction, IsKind, IsName, IsPlan, Sizes, is_name_character}
+use Rattle.onvm_base.specs.Plan.{AreDifferent, AreSizes, IsChainPlan, IsFunction, IsKind, IsPlan, Sizes, is_name_character}
 use Rattle.onvm_base.specs.declared.chain.ChainPlan.{ChainPlan}
 use Rattle.onvm_base.specs.declared.rules.RulePlan.{RulePlan}
 use Rattle.onvm_base.specs.declared.function.FunctionPlan.{FunctionPlan}

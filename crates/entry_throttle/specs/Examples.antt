@@ -1,5 +1,5 @@
 -- The plan of the tests, and the role that feeds its lane.
-use Rattle.std.specs.Prelude.{ℕ, ◌≡◌, List, [], ◌∷◌}
+use Rattle.std.specs.Prelude.{◌≡◌, List, [], ◌∷◌}
 use Rattle.onvm_base.specs.declared.function.FunctionPlan.{FunctionPlan}
 use Rattle.onvm_base.specs.declared.function.Kind.TheVariants.{Forward}
 use Rattle.onvm_base.specs.declared.plan.Plan.{Plan}
