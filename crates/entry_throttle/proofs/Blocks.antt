@@ -2,6 +2,8 @@
 use Rattle.std.proofs.Common.{◌≡◌, ◌∙◌, sym, ap, refl, subst, ℕ, zero, suc, ◌+◌, ◌/◌, ◌^◌, ◌<◌, ◌≤◌, List, [], ◌∷◌, ◌++◌, length, inr, arith, Option, Some, None}
 use Rattle.std.specs.Prelude.{◌==◌, if◌then◌else◌}
 use Rattle.std.proofs.lemmas.Bool.{eq-eqb, ne_eqb}
+use Rattle.std.proofs.lemmas.List.{append-nil}
+use Rattle.onvm_base.specs.declared.ids.FrameId.{FrameId}
 use Rattle.onvm_base.specs.declared.outcome.Record.{Record}
 use Rattle.onvm_core.specs.declared.entry.Entry.{Entry}
 use Rattle.onvm_core.specs.declared.layout.Word.TheVariants.{Post}
@@ -11,11 +13,17 @@ use Rattle.onvm_core.specs.Receiving.{MayAsk, MayReceiveFor, ReceivePhase, done_
 use Rattle.onvm_core.specs.Receiving.ReceivePhase.{Between, Asks, Seeks}
 use Rattle.onvm_core.proofs.Lists.{if_met, if_unmet}
 use Rattle.onvm_board.specs.Asking.{IsLowestHeld, masked_bits}
-use Rattle.onvm_board.specs.Tokens.{TokenView, grown}
+use Rattle.onvm_core.specs.Potential.{pushed_in}
+use Rattle.onvm_board.specs.Tokens.{BoardView, TokenView, grown}
 use Rattle.onvm_board.proofs.Judgements.{none_held}
 use Rattle.onvm_promises.specs.Follows.{MayReceiveIn, ReceivesFrom, receive_phase_from}
 use Rattle.onvm_promises.specs.Kept.{kept_now, records_by}
-use Rattle.entry_throttle.specs.Admissions.{AreWithout, FoundNone, IsHeldBack, IsMaskOf, ask_phase, held_record, log_after_asks, token_after_asks}
+use Rattle.entry_throttle.specs.declared.answer.Admit.{Admit}
+use Rattle.entry_throttle.specs.declared.answer.Admit.TheVariants.{Go, Hold}
+use Rattle.entry_throttle.specs.Feeders.{FeederView, IsFeederOf}
+use Rattle.entry_throttle.specs.Looks.{lane}
+use Rattle.entry_throttle.proofs.OtherActs.{LeaveFeeder, feeder_grown}
+use Rattle.entry_throttle.specs.Admissions.{AreWithout, FoundNone, IsAnswer, IsHeldBack, IsMaskOf, ask_phase, held_record, log_after_asks, token_after_asks}
 
 -- a look that found no bit of the mask, and one that did
 
@@ -38,7 +46,7 @@ may_hold setting e k mask seen post function of number low = (
 )
 
 -- the token after looks at posts has grown by them
-grown_by_asks : (values : List ℕ) (token : TokenView)
+pub grown_by_asks : (values : List ℕ) (token : TokenView)
     → token_after_asks values token ≡ grown (log_after_asks values []) token.hand token
 grown_by_asks [] token = refl
 grown_by_asks (seen ∷ before) token =
@@ -164,3 +172,32 @@ module _ (setting : Setting) (port done : ℕ) where
         recorded =
             ap (λ (records : List Record). records ++ told ∷ []) (asks_record_none is.values);
       }
+
+-- What a feeder knows stays true over an admission
+
+asks_leave : (feeder : ℕ) (values : List ℕ) → LeaveFeeder feeder (log_after_asks values [])
+asks_leave feeder [] = record { pushes = λ f. refl; posts = refl }
+asks_leave feeder (seen ∷ before) =
+    let was = asks_leave feeder before in record {
+      pushes = λ f. append-nil (pushed_in (lane f feeder) (log_after_asks before [])) ∙ was.pushes f;
+      posts = was.posts;
+    }
+
+pub feeder_admitted : (board : BoardView) (feeder : FeederView) (frame : FrameId) (mask feeders : ℕ)
+    (before after : TokenView) (answer : Admit) → IsAnswer frame mask feeders before after answer
+    → IsFeederOf board feeder before → IsFeederOf board feeder after
+feeder_admitted board feeder frame mask feeders before after Go found was =
+    feeder_grown board feeder (log_after_asks found.values []) before.hand before after
+    (found.grew ∙ grown_by_asks found.values before) (asks_leave feeder.number found.values) was
+feeder_admitted board feeder frame mask feeders before after (Hold p post f) is was =
+    let held = is.1 in
+    let told : Record = held_record frame p post f.0 in
+    let leave = asks_leave feeder.number held.values in
+    feeder_grown board feeder (Look (Post p) held.seen (Some told) ∷ log_after_asks held.values []) before.hand before after
+    (held.grew
+    ∙ ap (λ (t : TokenView). record t { log = Look (Post p) held.seen (Some told) ∷ t.log })
+    (grown_by_asks held.values before))
+    (record {
+      pushes = λ f. append-nil (pushed_in (lane f feeder.number) (log_after_asks held.values [])) ∙ leave.pushes f;
+      posts = leave.posts;
+    }) was

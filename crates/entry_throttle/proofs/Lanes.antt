@@ -7,7 +7,6 @@ use Rattle.std.proofs.lemmas.List.{append_assoc, get_or-set_same, get_or-set_oth
 use Rattle.std.proofs.Math.Nat.{mod-lt}
 use Rattle.onvm_base.specs.declared.ids.RingId.{RingId}
 use Rattle.onvm_core.specs.declared.layout.Word.TheVariants.{Cell}
-use Rattle.onvm_core.specs.declared.step.Act.{Act}
 use Rattle.onvm_core.specs.declared.step.Act.TheVariants.{Look}
 use Rattle.onvm_core.specs.Logs.{Setting, Log, push_count}
 use Rattle.onvm_core.specs.Marks.{Finding, MarkLook, Pass, is_for, finds, looks_from}

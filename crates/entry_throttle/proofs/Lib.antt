@@ -1,5 +1,6 @@
 pub mod Asks
 pub mod Blocks
+pub mod Examples
 pub mod Lanes
 pub mod LookBack
 pub mod MarksPasses

@@ -1,9 +1,8 @@
 -- One look back at a lane.
-use Rattle.std.proofs.Common.{◌≡◌, ◌∙◌, sym, ap, refl, subst, ℕ, ◌-◌, ◌%◌, ◌<◌, ◌≤◌, Bool, false, [], ◌∷◌, inl, inr, arith}
+use Rattle.std.proofs.Common.{◌≡◌, ◌∙◌, ap, refl, ℕ, ◌-◌, ◌%◌, ◌≤◌, Bool, false, [], ◌∷◌, inl, inr, arith}
 use Rattle.std.specs.Prelude.{Option, None, Some, not, ◌==◌, ◌&&◌, nat_le, if◌then◌else◌}
 use Rattle.std.proofs.lemmas.Bool.{cases_Bool, leb-true, leb-false}
 use Rattle.onvm_base.specs.declared.ids.RingId.{RingId}
-use Rattle.onvm_core.specs.declared.layout.Word.{Word}
 use Rattle.onvm_core.specs.declared.layout.Word.TheVariants.{Cell}
 use Rattle.onvm_core.specs.declared.step.Act.{Act}
 use Rattle.onvm_core.specs.declared.step.Act.TheVariants.{Look}
@@ -14,7 +13,7 @@ use Rattle.onvm_board.specs.declared.spot.Spot.{Spot}
 use Rattle.onvm_board.specs.Known.{post_count_in}
 use Rattle.onvm_board.specs.Tokens.{BoardView, MakesStep, TokenView}
 use Rattle.onvm_board.proofs.Stretches.{head_kept, tail_kept}
-use Rattle.desc_ring.specs.Ends.{Finds, LeavesEnds, cell_back}
+use Rattle.desc_ring.specs.Ends.{Finds, LeavesEnds}
 use Rattle.entry_throttle.specs.Lanes.{IsOwnEnd, OnlyLooked}
 
 -- before the first push there is no look

@@ -1,7 +1,6 @@
 -- For callers: what a feeder knows stays true over any acts that are no pushes on its lanes and no posts of it.
-use Rattle.std.proofs.Common.{◌≡◌, ◌∙◌, sym, ap, refl, subst, ℕ, ◌+◌, ◌<◌, ◌≤◌, Bool, true, false, List, [], ◌∷◌, ◌++◌, length, inl, inr, arith, length-append, Option, None, Some}
+use Rattle.std.proofs.Common.{◌≡◌, ◌∙◌, sym, ap, refl, subst, ℕ, ◌+◌, ◌<◌, ◌≤◌, Bool, true, false, List, [], ◌∷◌, ◌++◌, length, arith, length-append, Option, None, Some}
 use Rattle.std.specs.Prelude.{if◌then◌else◌, slice_index_or}
-use Rattle.std.proofs.lemmas.Bool.{cases_Bool}
 use Rattle.std.proofs.lemmas.List.{append-nil}
 use Rattle.onvm_base.specs.declared.ids.RingId.{RingId}
 use Rattle.onvm_core.specs.declared.layout.Word.{Word}
@@ -10,7 +9,7 @@ use Rattle.onvm_core.specs.declared.step.Act.{Act}
 use Rattle.onvm_core.specs.declared.step.Act.TheVariants.{Split, Join, Take, Give, Push, Full, Pop, Empty, Look, Post}
 use Rattle.onvm_core.specs.declared.step.Item.{Item}
 use Rattle.onvm_core.specs.Handling.{is_push_on}
-use Rattle.onvm_core.specs.History.{posts_after, pushes}
+use Rattle.onvm_core.specs.History.{pushes}
 use Rattle.onvm_core.specs.Layouts.{same_ring, same_word}
 use Rattle.onvm_core.specs.Logs.{Log, Setting, push_count}
 use Rattle.onvm_core.specs.Marks.{Ages, MarkPhase, events_in, is_throttled, posts_so_far}

@@ -1,12 +1,11 @@
 -- For callers: a new feeder of a role that has done nothing.
-use Rattle.std.proofs.Common.{◌≡◌, ◌∙◌, sym, ap, refl, subst, ℕ, ◌<◌, ◌≤◌, [], length, inl, inr, arith, Option}
-use Rattle.std.specs.Prelude.{min}
+use Rattle.std.proofs.Common.{◌≡◌, ◌∙◌, sym, ap, subst, ℕ, ◌≤◌, [], length, inl, inr, arith, Option}
 use Rattle.std.proofs.lemmas.Bool.{cases_lt}
 use Rattle.std.proofs.lemmas.List.{get_or_past}
 use Rattle.onvm_base.specs.declared.plan.Plan.{Plan}
 use Rattle.onvm_core.specs.declared.layout.Word.TheVariants.{Post as PostWord}
 use Rattle.onvm_core.specs.Layouts.{IsFeeder, IsLayoutOf}
-use Rattle.onvm_core.specs.Logs.{Log, Setting, push_count}
+use Rattle.onvm_core.specs.Logs.{Setting, push_count}
 use Rattle.onvm_core.specs.Marks.{Ages}
 use Rattle.onvm_core.proofs.Marked.{no_bit}
 use Rattle.onvm_board.specs.declared.spot.Spot.{Spot}

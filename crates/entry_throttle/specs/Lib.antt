@@ -1,4 +1,5 @@
 pub mod Admissions
+pub mod Examples
 pub mod Feeders
 pub mod Lanes
 pub mod Looks

@@ -12,6 +12,8 @@ mod answer;
 mod feeder;
 mod post_word;
 mod reading;
+#[cfg(test)]
+mod tests;
 mod throttles;
 
 pub use admission::admit;

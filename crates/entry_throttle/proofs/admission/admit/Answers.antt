@@ -1,4 +1,4 @@
-use Rattle.std.proofs.Common.{◌≡◌, ◌≢◌, refl, ap, sym, subst, ◌∙◌, ℕ, ◌/◌, ◌^◌}
+use Rattle.std.proofs.Common.{◌≢◌, refl, ap, sym, subst, ◌∙◌, ℕ, ◌/◌, ◌^◌}
 use Rattle.std.specs.Prelude.{bit_and}
 use Rattle.std.specs.Int.{trailing_zeros, w32}
 use Rattle.onvm_board.specs.Asking.{masked_bits}
