@@ -1,0 +1,6 @@
+pub mod ExampleHeld
+pub mod ExampleIdle
+pub mod ExampleLines
+pub mod ExamplePasses
+pub mod ExamplePlans
+pub mod ExamplePromises
