@@ -1,3 +1,5 @@
+pub mod ExampleAges
+pub mod ExampleFull
 pub mod ExampleHeld
 pub mod ExampleIdle
 pub mod ExampleLines
