@@ -6,3 +6,5 @@ pub mod ExampleLines
 pub mod ExamplePasses
 pub mod ExamplePlans
 pub mod ExamplePromises
+pub mod WrongMarks
+pub mod WrongMoves
