@@ -8,3 +8,4 @@ pub mod ExamplePlans
 pub mod ExamplePromises
 pub mod WrongMarks
 pub mod WrongMoves
+pub mod WrongServices
