@@ -280,14 +280,14 @@ not_in_haste paced = omega (arith, paced.0.0 (omega arith))
 
 -- The held frame's throttle is earned
 
-pub throttle_is_earned : IsEarnedThrottle setting (λ feeder. in_time) raised e3 held 0 1 0
+pub throttle_is_earned : IsEarnedThrottle setting in_time raised e3 held 0 1 0
 throttle_is_earned = record {
   seen = 4294967297;
   shown = refl;
   number = refl;
   held = is_held;
   names = refl;
-  raised = inl (ByPost 4294967297 found_both [] refl refl refl refl);
+  raised = inl (ByPost 4294967297 found_both [] refl refl refl refl refl);
 }
 
 -- Wrong ideas
@@ -307,14 +307,14 @@ not_of_chain of =
     (step_of of.at of.service of.named) of.found)
 
 -- no throttle by a function of another chain is earned, whatever was posted
-pub not_by_another_chain : (aged : ℕ → Ages) (past : History) (told : Record) (feeder post : ℕ)
+pub not_by_another_chain : (aged : Ages) (past : History) (told : Record) (feeder post : ℕ)
     → IsEarnedThrottle setting aged past e3 told feeder post 1
     → ⊥
 not_by_another_chain aged past told feeder post earned =
     not_of_chain (subst (IsOfChain setting.plan e3.chain) earned.names earned.held.raised.of_chain)
 
 -- none is once the mark was cleared, whichever post it names
-pub not_after_clearing : (aged : ℕ → Ages) (told : Record) (post function : ℕ)
+pub not_after_clearing : (aged : Ages) (told : Record) (post function : ℕ)
     → IsEarnedThrottle setting aged cleared e3 told 0 post function
     → ⊥
 not_after_clearing aged told post function earned =

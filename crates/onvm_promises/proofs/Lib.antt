@@ -1,3 +1,6 @@
+pub mod Aging
+pub mod BlockPacing
+pub mod Evening
 pub mod ExampleAges
 pub mod ExampleFull
 pub mod ExampleHeld
@@ -6,6 +9,16 @@ pub mod ExampleLines
 pub mod ExamplePasses
 pub mod ExamplePlans
 pub mod ExamplePromises
+pub mod Fitting
+pub mod Following
+pub mod Keeping
+pub mod Moving
+pub mod Pacing
+pub mod Settling
+pub mod Stretches
+pub mod Ticking
+pub mod Timing
+pub mod Unmarked
 pub mod WrongMarks
 pub mod WrongMoves
 pub mod WrongServices
