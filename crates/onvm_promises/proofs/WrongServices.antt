@@ -14,7 +14,8 @@ use Rattle.onvm_core.specs.declared.step.Item.{Item}
 use Rattle.onvm_core.specs.declared.step.Item.TheVariants.{Buffer, Number}
 use Rattle.onvm_base.specs.declared.plan.Plan.{Plan}
 use Rattle.onvm_core.specs.Handling.{IsOwn, budget_left, is_push_on}
-use Rattle.onvm_core.specs.Logs.{Log, Setting, entry_parcel, feeder_count}
+use Rattle.onvm_core.specs.Layouts.{feeder_count}
+use Rattle.onvm_core.specs.Logs.{Log, Setting, entry_parcel}
 use Rattle.onvm_core.specs.Places.{how_many, one_if}
 use Rattle.onvm_core.specs.Samples.{AreSamples}
 use Rattle.onvm_core.proofs.Once.{how_many-append}
@@ -24,7 +25,7 @@ use Rattle.onvm_core.proofs.Steps.{◌◂◌}
 use Rattle.onvm_promises.specs.Passes.{EndsBarred, EndsWithEmpties, HasOneSample, IsServed, is_mailed}
 use Rattle.onvm_promises.specs.Passes.EndsBarred.{ABar}
 use Rattle.onvm_promises.specs.Passes.EndsWithEmpties.{NoEmpty, OneEmpty}
-use Rattle.onvm_promises.specs.Rests.{AreTries, is_try}
+use Rattle.onvm_promises.specs.Rests.{AreTries, MayTry, is_try}
 use Rattle.onvm_promises.specs.Sampling.{AreEven}
 use Rattle.onvm_promises.proofs.ExampleHeld as held
 
@@ -75,23 +76,39 @@ older : (setting : Setting) (newer log : Log) → AreTries setting (newer ++ log
 older setting [] log are = are
 older setting (act ∷ newer) log are = older setting newer log are.1
 
+-- a pop from a function's lane, or a look into it that finds it empty
+pub data IsTryOf (f : FnId) (p : ℕ) : Act → Type 0 where
+  ByPop : (item : Item) → IsTryOf f p (Pop (Lane f p) item)
+  ByEmpty : IsTryOf f p (Empty (Lane f p))
+
+try_counts : (f : FnId) (p : ℕ) (act : Act) → IsTryOf f p act → is_try f act ≡ true
+try_counts f p act (ByPop item) = eq-eqb f.0 f.0 refl
+try_counts f p act ByEmpty = eq-eqb f.0 f.0 refl
+
+try_is_due : (setting : Setting) (before : Log) (f : FnId) (p : ℕ) (act : Act) → IsTryOf f p act
+    → MayTry setting before act
+    → p ≡ how_many (is_try f) before % feeder_count setting.layout
+try_is_due setting before f p act (ByPop item) may = may
+try_is_due setting before f p act ByEmpty may = may
+
 -- two tries of a function next to one another aren't of one lane, where there are more
-pub no_lane_twice : (setting : Setting) (f : FnId) (p : ℕ) (item other : Item) (between before : Log)
-    → 1 < feeder_count setting → how_many (is_try f) between ≡ 0
-    → ¬ AreTries setting (Pop (Lane f p) item ∷ (between ++ Pop (Lane f p) other ∷ before))
-no_lane_twice setting f p item other between before more none are =
-    let self : (f.0 == f.0) ≡ true = eq-eqb f.0 f.0 refl in
-    let earlier : p ≡ how_many (is_try f) before % feeder_count setting
-    = (older setting between (Pop (Lane f p) other ∷ before) are.1).0 in
-    let count : how_many (is_try f) (between ++ Pop (Lane f p) other ∷ before) ≡ how_many (is_try f) before + 1
+pub no_lane_twice : (setting : Setting) (f : FnId) (p : ℕ) (act other : Act) (between before : Log)
+    → 1 < feeder_count setting.layout → IsTryOf f p act → IsTryOf f p other → how_many (is_try f) between ≡ 0
+    → ¬ AreTries setting (act ∷ (between ++ other ∷ before))
+no_lane_twice setting f p act other between before more again first none are =
+    let earlier : p ≡ how_many (is_try f) before % feeder_count setting.layout
+    = try_is_due setting before f p other first (older setting between (other ∷ before) are.1).0 in
+    let now : p ≡ how_many (is_try f) (between ++ other ∷ before) % feeder_count setting.layout
+    = try_is_due setting (between ++ other ∷ before) f p act again are.0 in
+    let count : how_many (is_try f) (between ++ other ∷ before) ≡ how_many (is_try f) before + 1
     = omega (
       arith,
-      how_many-append (is_try f) between (Pop (Lane f p) other ∷ before),
+      how_many-append (is_try f) between (other ∷ before),
       none,
-      ap one_if self,
+      ap one_if (try_counts f p other first),
     ) in
-    step_apart (how_many (is_try f) before) (feeder_count setting) more
-    (sym earlier ∙ are.0 ∙ ap (λ (n : ℕ). n % feeder_count setting) count)
+    step_apart (how_many (is_try f) before) (feeder_count setting.layout) more
+    (sym earlier ∙ now ∙ ap (λ (n : ℕ). n % feeder_count setting.layout) count)
 
 -- A core ends a function's service before its budget is spent, with room, and a lane not found empty
 
@@ -127,7 +144,7 @@ empties_may_end f n log some (NoEmpty other) = absurd (omega (arith, some))
 empties_may_end f n log some (OneEmpty g feeder m before same more) = rw (eq-eqb g.0 f.0 same) (omega arith)
 
 -- whatever the look at the weight word shows
-pub leaves_early : (setting : Setting) (f : FnId) (before added : Log) → 0 < feeder_count setting
+pub leaves_early : (setting : Setting) (f : FnId) (before added : Log) → 0 < feeder_count setting.layout
     → how_many (may_end f) added ≡ 0 → AlwaysLeft setting.plan f before added
     → ¬ IsServed setting f before added
 leaves_early setting f before added some none left served =
@@ -161,7 +178,7 @@ leaves_early setting f before added some none left served =
       | inr (inr dry) ↦ omega (
         arith,
         few,
-        empties_may_end f (feeder_count setting) (served.service ++ look ∷ []) some dry,
+        empties_may_end f (feeder_count setting.layout) (served.service ++ look ∷ []) some dry,
       )
     ]
 
