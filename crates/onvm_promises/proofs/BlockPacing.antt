@@ -6,7 +6,7 @@ use Rattle.onvm_base.specs.declared.outcome.Record.{Record}
 use Rattle.onvm_core.specs.declared.layout.Word.TheVariants.{Pool as PoolWord, Post as PostWord}
 use Rattle.onvm_core.specs.declared.step.Act.{Act}
 use Rattle.onvm_core.specs.declared.step.Act.TheVariants.{Give, Push, Full, Look, Take}
-use Rattle.onvm_core.specs.Logs.{Log, Setting, feeder_count}
+use Rattle.onvm_core.specs.Logs.{Log, Setting}
 use Rattle.onvm_core.specs.Places.{one_if}
 use Rattle.onvm_core.specs.Marks.{Ages, IsPaid, IsResting, MarkLook, MarkPhase, events_in, looks_of_pass, mark_phase}
 use Rattle.onvm_core.specs.Receiving.{ReceivePhase, done_count, phase_after_ask, phase_after_seek, receive_after, receive_phase}
@@ -20,7 +20,9 @@ use Rattle.onvm_promises.specs.Rests.{IsSettledFeeder}
 use Rattle.onvm_promises.specs.Times.{passes_in}
 use Rattle.onvm_promises.proofs.Following.{receive_phase_is}
 use Rattle.onvm_promises.proofs.Pacing.{IsReset, blocks_reset, pops_within}
-use Rattle.onvm_promises.proofs.Settling.{blocks_unmarked, mark_phase_same, marked_still}
+use Rattle.onvm_promises.proofs.Settling.{mark_phase_same, marked_still}
+use Rattle.onvm_promises.proofs.Unmarked.{blocks_unmarked}
+use Rattle.onvm_core.specs.Layouts.{feeder_count}
 
 -- How many blocks a stretch begins
 
@@ -48,7 +50,7 @@ asked : (setting : Setting) (done k : ℕ) (told : Option Record)
     → done_count (phase_after_ask setting done k told) + open_block (phase_after_ask setting done k told) ≡ done + 1
 asked setting done k (Some told) = omega arith
 asked setting done k None =
-    elim (cases_Bool (k + 1 == feeder_count setting)) [
+    elim (cases_Bool (k + 1 == feeder_count setting.layout)) [
       | inl met ↦ rw met (omega arith)
       | inr unmet ↦ rw unmet (omega arith)
     ]

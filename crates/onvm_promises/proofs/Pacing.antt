@@ -23,7 +23,8 @@ use Rattle.onvm_promises.specs.Follows.{SendsFrom, send_phase_from}
 use Rattle.onvm_promises.specs.Passes.{IsMarksPass, is_pop_of}
 use Rattle.onvm_promises.specs.Rests.{IsSettledFeeder}
 use Rattle.onvm_promises.specs.Times.{passes_in}
-use Rattle.onvm_promises.proofs.Settling.{mark_phase_same, marked_still, moves_unmarked}
+use Rattle.onvm_promises.proofs.Settling.{mark_phase_same, marked_still}
+use Rattle.onvm_promises.proofs.Unmarked.{moves_unmarked}
 
 -- No more pops were made since the latest marks pass than in this stretch; or a marks pass leaves no trace yet, and so
 -- counts as standing anywhere

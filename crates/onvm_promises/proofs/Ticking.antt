@@ -15,7 +15,7 @@ use Rattle.onvm_core.proofs.Lists.{if_met, if_unmet}
 use Rattle.load_estimate.specs.declared.sample.Sample.{Sample}
 use Rattle.load_estimate.specs.declared.tick.Tick.{Tick}
 use Rattle.onvm_promises.specs.Lines.{lines_of, share_at, weight_posted, weights_posted}
-use Rattle.onvm_promises.specs.Ticks.{AreAllTicks, AreApart, AreTicks, AreTicksSoFar, NeverFall, PostsWeights, TakenRise, is_due, last_moment, last_number, new_ticks, tick_at, weight_posts, weights_in}
+use Rattle.onvm_promises.specs.Ticks.{AllUpTo, AreAllTicks, AreApart, AreTicks, AreTicksSoFar, NeverFall, PostsWeights, TakenRise, is_due, last_moment, last_number, new_ticks, tick_at, weight_posts, weights_in}
 
 -- Samples that come later change no tick
 
@@ -41,10 +41,6 @@ ticks_more plan samples more earlier (t ∷ ts) are = (
 abbrev pub AllAt : ℕ → List Sample → Type 0
 AllAt now [] = Unit {0}
 AllAt now (s ∷ ss) = (s.moment ≡ now) × AllAt now ss
-
-abbrev pub AllUpTo : ℕ → List Sample → Type 0
-AllUpTo now [] = Unit {0}
-AllUpTo now (s ∷ ss) = (s.moment ≤ now) × AllUpTo now ss
 
 at_once : (from now : ℕ) (more : List Sample) → from ≤ now → AllAt now more → NeverFall from more
 at_once from now [] le all = tt

@@ -1,0 +1,11 @@
+pub mod Accounted
+pub mod Closing
+pub mod LastRound
+pub mod Leading
+pub mod Phasing
+pub mod Reading
+pub mod Rounds
+pub mod Serial
+pub mod Stepping
+pub mod Turning
+pub mod Weaving
