@@ -1,5 +1,8 @@
 pub mod Accounted
 pub mod Closing
+pub mod ExampleAccount
+pub mod ExampleSteps
+pub mod ExampleTurns
 pub mod LastRound
 pub mod Leading
 pub mod Phasing
