@@ -1,4 +1,5 @@
--- Where there are as many records as frames, each frame has one, every block has ended, and every buffer is in the pool.
+-- Where there are as many records as frames, each frame has one, every block has ended, and every buffer is in the
+-- pool.
 use Rattle.std.proofs.Common.{◌≡◌, ℕ, zero, suc, ◌+◌, ◌-◌, ◌*◌, ◌<◌, ◌≤◌, Bool, true, false, inl, inr, [], length, refl, sym, ◌∙◌, ap, subst, arith, Option, Some, None}
 use Rattle.std.specs.Prelude.{◌==◌, ◌⊎◌, nat_lt}
 use Rattle.std.proofs.lemmas.Bool.{cases_Bool, eqb-true, eqb-false, ltb-true, ltb-false}
@@ -157,7 +158,9 @@ module _ (setting : Setting) (past : History) (numbered : IsNumbered setting) (l
             omega (arith, ltb-false 0 (length (entries_of_port port setting.entries)) none)
       ]
 
-  not_taken : (port done buf : ℕ) → own_load setting port (log_of port past) ≡ Some (buf, Fresh (frame_at port done)) → ⊥
+  not_taken : (port done buf : ℕ)
+      → own_load setting port (log_of port past) ≡ Some (buf, Fresh (frame_at port done))
+      → ⊥
   not_taken port done buf own =
       let has : HasLoad setting past port buf (Fresh (frame_at port done)) =
       own_load_is setting past lawful port buf (Fresh (frame_at port done)) own in

@@ -10,6 +10,7 @@ pub mod Dropping
 pub mod Earning
 pub mod Endings
 pub mod Falls
+pub mod FrameCounts
 pub mod Gathered
 pub mod Hands
 pub mod Held
@@ -39,4 +40,5 @@ pub mod Traces
 pub mod Trails
 pub mod Unloaded
 pub mod Walk
+pub mod WalkEnds
 pub mod WalkLogs

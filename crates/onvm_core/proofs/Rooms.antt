@@ -91,7 +91,8 @@ begun_within frames (Sees done index seen) room = omega (arith, room)
 begun_within frames (Took done buf) room = omega (arith, room)
 begun_within frames (Barred done buf ring) room = omega (arith, room)
 
-pub receive_kind : (setting : Setting) (past : History) (port : ℕ) → AllOfBlocks setting past → port < setting.layout.ports
+pub receive_kind : (setting : Setting) (past : History) (port : ℕ)
+    → AllOfBlocks setting past → port < setting.layout.ports
     → IsKind setting port Receives (log_of port past)
 receive_kind setting past port blocks known =
     is_kind setting port (log_of port past) Receives
@@ -129,7 +130,8 @@ begun_in_range setting past frame blocks begun =
     ≤ length (entries_of_port frame.port.0 setting.entries)
     = begun_within (length (entries_of_port frame.port.0 setting.entries))
     (receive_phase setting (log_of frame.port.0 past))
-    (has_room setting frame.port.0 (log_of frame.port.0 past) (receive_kind setting past frame.port.0 blocks parts.0)) in
+    (has_room setting frame.port.0 (log_of frame.port.0 past)
+    (receive_kind setting past frame.port.0 blocks parts.0)) in
     (parts.0, parts.1, omega (arith, parts.2, all))
 
 get_within : (entries : List Entry) (k : ℕ) → k < length entries → (e : Entry) × (slice_get entries k ≡ Some e)

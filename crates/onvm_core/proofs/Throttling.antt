@@ -92,7 +92,8 @@ earned_throttle setting aged step before told feeder post function lawful blocks
           × IsEarnedThrottle setting aged before entry told k (seen / 2 ^ 32) held.function
           = look_earned setting aged step before told k seen entry lawful
           (subst (λ (p : ℕ). AreMarked setting p aged (log_of p before))
-          (sym (throttle_parts k (seen / 2 ^ 32) feeder post (record { 0 = held.function }) function outcome_is).0) marked)
+          (sym (throttle_parts k (seen / 2 ^ 32) feeder post (record { 0 = held.function }) function outcome_is).0)
+          marked)
           look held in
           named_so setting aged step before told k (seen / 2 ^ 32) feeder post
           (record { 0 = held.function }) function outcome_is

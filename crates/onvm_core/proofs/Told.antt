@@ -1,5 +1,5 @@
 -- Who acts, and what a history tells: what its roles' logs tell, together.
-use Rattle.std.proofs.Common.{◌≡◌, ℕ, ◌+◌, ◌<◌, Bool, true, false, if◌then◌else◌, inl, inr, List, [], ◌∷◌, ◌++◌, refl, sym, ◌∙◌, ap, subst, arith}
+use Rattle.std.proofs.Common.{◌≡◌, ℕ, ◌+◌, ◌<◌, Bool, true, false, if◌then◌else◌, inl, inr, List, [], ◌∷◌, ◌++◌, length, refl, sym, ◌∙◌, ap, subst, arith}
 use Rattle.std.specs.Prelude.{◌==◌}
 use Rattle.std.proofs.lemmas.Bool.{both_ways, cases_Bool, eqb-true, ne_eqb, or_cases}
 use Rattle.onvm_core.specs.declared.layout.Layout.{Layout}
@@ -118,3 +118,26 @@ records_gathered (step ∷ before) = ap (λ rs. rs ++ records_of_act step.act) (
 pub sent_gathered : (past : History) → sent_frames_in past ≡ gathered sent_frames_of_act past
 sent_gathered [] = refl
 sent_gathered (step ∷ before) = ap (λ fs. fs ++ sent_frames_of_act step.act) (sent_gathered before)
+
+-- How much is told
+
+how_many_all : {A : Type 0} (xs : List A) → how_many (λ x. true) xs ≡ length xs
+how_many_all [] = refl
+how_many_all (x ∷ xs) = omega (arith, how_many_all xs)
+
+pub gathered_length : {A : Type 0} (tell : Act → List A) (layout : Layout) (past : History) → IsLawful layout past
+    → length (gathered tell past)
+    ≡ sum_below (λ role. length (gathered_of_log tell (log_of role past))) (first_role layout + 1)
+gathered_length tell layout past lawful =
+    sym (how_many_all (gathered tell past))
+    ∙ gathered_is (λ x. true) tell layout past lawful
+    ∙ sum_same (λ role. how_many (λ x. true) (gathered_of_log tell (log_of role past)))
+    (λ role. length (gathered_of_log tell (log_of role past))) (first_role layout + 1)
+    (λ role less. how_many_all (gathered_of_log tell (log_of role past)))
+
+-- a history has as many records as all its roles' logs together
+pub records_length : (layout : Layout) (past : History) → IsLawful layout past
+    → length (records_in past)
+    ≡ sum_below (λ role. length (gathered_of_log records_of_act (log_of role past))) (first_role layout + 1)
+records_length layout past lawful =
+    ap length (records_gathered past) ∙ gathered_length records_of_act layout past lawful

@@ -71,7 +71,7 @@ LeadsTo journals frame input (crumb ∷ crumbs) output =
     (h : Handling) × (slice_get (journals crumb.function) crumb.place ≡ Some h) × (h.before.frame ≡ frame)
     × (h.verdict ≡ crumb.verdict) × (h.before.packet ≡ input) × (LeadsTo journals frame h.bytes crumbs output)
 
--- a parcel is what functions and moves made of another: its bytes, its cursor and its trail may differ, and nothing else
+-- a parcel is what functions and moves make of another: its bytes, cursor and trail may differ, and nothing else
 abbrev pub IsMadeOf : (was parcel : Parcel) → Type 0
 IsMadeOf was parcel =
     parcel ≡ record was {

@@ -48,8 +48,8 @@ pub fn t3_2()
 {}
 
 /// One frame, one buffer: from its take or its record on, each frame has exactly one record or is
-/// in exactly one buffer, and never both. No other frame has a record or is in a buffer, and a
-/// buffer of the pool has no frame.
+/// in exactly one buffer, and never both. No other frame has a record or is in a buffer, and the
+/// buffers of the pool are those without a frame.
 pub fn t3_3()
     ensures one { (setting : Setting) (past : History) → IsNumbered setting
         → IsLawful setting.layout past → AllOfBlocks setting past → (frame : FrameId)
@@ -57,6 +57,8 @@ pub fn t3_3()
         ≡ one_if (has_begun setting frame past) }
     ensures pool { (setting : Setting) (past : History) (buf : ℕ)
         → place_of buf past ≡ Pool → load setting buf past ≡ None }
+    ensures unloaded { (setting : Setting) (past : History) (buf : ℕ)
+        → load setting buf past ≡ None → place_of buf past ≡ Pool }
 {}
 
 /// Trails tell journals: each parcel that is pushed, popped or given is made of its frame's as it

@@ -73,7 +73,7 @@ suffix_same (x ∷ xs) (z ∷ zs) ys ws e size =
     (ap (λ (log : Log). x ∷ log) both.0 ∙ ap (λ (act : Act). act ∷ zs) head, both.1)
 
 -- the turn behind which a round ends is the tick role's
-ends_round : (layout : Layout) (place : ℕ) → place + 1 ≡ first_role layout → role_at layout place ≡ tick_role layout
+pub ends_round : (layout : Layout) (place : ℕ) → place + 1 ≡ first_role layout → role_at layout place ≡ tick_role layout
 ends_round layout place e =
     ap (role_at layout) (at_last place e) ∙ role_last layout
   where

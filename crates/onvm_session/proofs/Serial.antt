@@ -116,7 +116,7 @@ shown_of setting aged logs (t ∷ ts) ranges whole = (
 
 module _ (setting : Setting) (moments : ℕ → ℕ → ℕ) (final : FinalView) (ranges : IsLayout setting.layout)
     (so_far : IsSerialSoFar setting moments final) where
-  read_rounds : AreInRounds setting.layout (turns_in final)
+  pub read_rounds : AreInRounds setting.layout (turns_in final)
       × (place_of_turn setting.layout (turns_in final) ≡ place_in setting.layout final.lead)
   read_rounds = rounds_read setting.layout final.lead final.counts so_far.turns so_far.counts
 
