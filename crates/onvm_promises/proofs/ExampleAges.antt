@@ -1,7 +1,6 @@
 -- The mark of the example is raised by moments: the two frames entered at 0, and the marks pass is at 1,000, the age.
-use Rattle.std.proofs.Common.{◌≡◌, ℕ, true, false, inl, inr, [], ◌∷◌, ◌++◌, refl, arith}
+use Rattle.std.proofs.Common.{◌≡◌, ℕ, true, false, [], ◌∷◌, ◌++◌, refl, arith}
 use Rattle.onvm_core.specs.Logs.{Log}
-use Rattle.onvm_core.proofs.Crowd.{e1}
 use Rattle.onvm_core.proofs.HeldSteps.{held}
 use Rattle.onvm_promises.specs.declared.pass.Pass.TheVariants.{Did, Idle}
 use Rattle.onvm_promises.specs.Kept.{FeederKeeps, moment_then}
@@ -74,7 +73,7 @@ clears = record {
   added = clearing;
   grown = refl;
   so_far =
-    record { rests = (third_is _ old_still).rests; kept = record { records = refl; sent = refl; posts = refl } };
+      record { rests = (third_is _ old_still).rests; kept = record { records = refl; sent = refl; posts = refl } };
   whole = λ e. third_is _ old_still;
   tells = (refl, refl);
 }

@@ -1,6 +1,6 @@
 -- A receive pass of five frames of a port with three buffers: two enter by a lane, the third finds it full, the fourth
 -- enters by another lane, and for the fifth there is no buffer.
-use Rattle.std.proofs.Common.{◌≡◌, ℕ, inl, [], ◌∷◌, ◌++◌, refl, arith, Some, None}
+use Rattle.std.proofs.Common.{◌≡◌, ℕ, inl, [], ◌∷◌, refl, arith, Some, None}
 use Rattle.onvm_base.specs.declared.ids.RingId.TheVariants.{Lane}
 use Rattle.onvm_base.specs.declared.outcome.Outcome.TheVariants.{PoolEmpty, RingFull}
 use Rattle.onvm_core.specs.declared.layout.Word.TheVariants.{Pool as PoolWord, Post as PostWord}

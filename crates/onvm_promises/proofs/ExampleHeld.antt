@@ -11,7 +11,7 @@ use Rattle.onvm_core.specs.declared.step.Act.TheVariants.{Take, Push, Look, Post
 use Rattle.onvm_core.specs.declared.step.Item.TheVariants.{Buffer}
 use Rattle.onvm_core.specs.Blocks.{IsOfBlocks}
 use Rattle.onvm_core.specs.Logs.{Log, Setting, entry_parcel, log_of}
-use Rattle.onvm_core.specs.Marks.{Ages, AreMarked, IsOwed, IsPaid, MarkEvents, Pass, has_bit, is_throttled, mark_events}
+use Rattle.onvm_core.specs.Marks.{Ages, AreMarked, IsOwed, MarkEvents, Pass, has_bit, is_throttled}
 use Rattle.onvm_core.specs.Marks.MarkEvent.{Passed, Posted}
 use Rattle.onvm_core.specs.Pace.{IsPaced}
 use Rattle.onvm_core.specs.Receiving.{IsThrottleRecord, Raises}
@@ -76,17 +76,17 @@ entered_settled aged = record {
   ended = tt;
   paid = inl no_bits;
   paced =
-    ((λ known. omega arith), λ g. omega arith)
-    ◂ ((λ known. omega arith), λ g. omega arith)
-    ◂ ((λ known. omega arith), λ g. omega arith)
-    ◂ ((λ known. omega arith), λ g. omega arith)
-    ◂ ((λ known. omega arith), λ g. omega arith)
-    ◂ ((λ known. omega arith), λ g. omega arith)
-    ◂ ((λ known. omega arith), λ g. omega arith)
-    ◂ ((λ known. omega arith), λ g. omega arith)
-    ◂ ((λ known. omega arith), λ g. omega arith)
-    ◂ ((λ known. omega arith), λ g. omega arith)
-    ◂ tt;
+      ((λ known. omega arith), λ g. omega arith)
+      ◂ ((λ known. omega arith), λ g. omega arith)
+      ◂ ((λ known. omega arith), λ g. omega arith)
+      ◂ ((λ known. omega arith), λ g. omega arith)
+      ◂ ((λ known. omega arith), λ g. omega arith)
+      ◂ ((λ known. omega arith), λ g. omega arith)
+      ◂ ((λ known. omega arith), λ g. omega arith)
+      ◂ ((λ known. omega arith), λ g. omega arith)
+      ◂ ((λ known. omega arith), λ g. omega arith)
+      ◂ ((λ known. omega arith), λ g. omega arith)
+      ◂ tt;
 }
 
 entered_blocks : IsOfBlocks setting 0 entered

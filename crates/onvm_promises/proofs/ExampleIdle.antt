@@ -1,6 +1,5 @@
 -- Passes without a frame: each is whole, and its answer may be Idle.
-use Rattle.std.proofs.Common.{◌≡◌, ℕ, zero, suc, ◌<◌, ◌≤◌, true, false, inl, inr, [], ◌∷◌, refl, subst, arith, None}
-use Rattle.std.specs.Prelude.{◌==◌}
+use Rattle.std.proofs.Common.{◌≡◌, ℕ, zero, suc, ◌<◌, true, false, inl, inr, [], ◌∷◌, refl, subst, arith, None}
 use Rattle.onvm_base.specs.declared.ids.FnId.{FnId}
 use Rattle.onvm_base.specs.declared.ids.RingId.TheVariants.{Lane, Output, Mail}
 use Rattle.onvm_base.specs.declared.limits.TheConstants.{MAIL_RING}
@@ -17,7 +16,7 @@ use Rattle.onvm_core.proofs.WalkLogs as walk
 use Rattle.onvm_promises.specs.declared.pass.Pass.TheVariants.{Idle}
 use Rattle.onvm_promises.specs.Acts.IsMoveStep.{AnEmpty}
 use Rattle.onvm_promises.specs.Answers.{IsIdleCore}
-use Rattle.onvm_promises.specs.Kept.{CoreKeeps, FeederKeeps}
+use Rattle.onvm_promises.specs.Kept.{FeederKeeps}
 use Rattle.onvm_promises.specs.Passes.{IsCorePass, IsDrained, IsMarksPass, IsReceivePass, IsSendPass, IsServed, IsTickPass, ran_dry}
 use Rattle.onvm_promises.specs.Passes.EndsWithEmpties.{NoEmpty, OneEmpty}
 use Rattle.onvm_promises.specs.Rests.{IsSettledFeeder}

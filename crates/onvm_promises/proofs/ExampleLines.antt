@@ -1,9 +1,6 @@
 -- Worked windows, shares, lines and ticks, of two functions with priorities 1 and 2 on one core.
 use Rattle.std.proofs.Common.{◌≡◌, ℕ, true, false, List, [], ◌∷◌, refl, Some, None}
-use Rattle.onvm_base.specs.declared.function.FunctionPlan.{FunctionPlan}
-use Rattle.onvm_base.specs.declared.plan.Plan.{Plan}
 use Rattle.load_estimate.specs.declared.sample.Sample.{Sample}
-use Rattle.load_estimate.specs.declared.tick.Share.{Share}
 use Rattle.load_estimate.specs.declared.tick.Tick.{Tick}
 use Rattle.load_estimate.specs.declared.tick.TickLine.{TickLine}
 use Rattle.load_estimate.specs.Windows.{arrivals_of, median_of}

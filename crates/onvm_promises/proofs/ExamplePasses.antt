@@ -1,6 +1,6 @@
 -- One frame on its way: it is received, handled and sampled, moved, and its sample is taken. Each of the four passes is
 -- whole.
-use Rattle.std.proofs.Common.{◌≡◌, ℕ, zero, suc, ◌+◌, ◌^◌, ◌<◌, ◌≤◌, Bool, true, false, inl, inr, [], ◌∷◌, refl, ap, subst, arith, None}
+use Rattle.std.proofs.Common.{◌≡◌, ℕ, ◌+◌, ◌^◌, ◌<◌, ◌≤◌, Bool, true, false, inl, inr, [], ◌∷◌, refl, ap, subst, arith, None}
 use Rattle.std.specs.Prelude.{◌==◌, if◌then◌else◌}
 use Rattle.std.proofs.lemmas.Bool.{cases_Bool}
 use Rattle.onvm_base.specs.declared.ids.FnId.{FnId}
@@ -19,10 +19,9 @@ use Rattle.onvm_core.proofs.Marked.{no_bit}
 use Rattle.onvm_core.proofs.Steps.{◌◂◌}
 use Rattle.onvm_core.proofs.Walk.{f, buf, entered, handled, walk}
 use Rattle.onvm_core.proofs.WalkLogs.{setting, walk_follows}
-use Rattle.onvm_promises.specs.Acts.{AreBlockSteps, AreMoveSteps}
 use Rattle.onvm_promises.specs.Acts.IsBlockStep.{AnAsk, ASeek, ATake, APush as BlockPush}
 use Rattle.onvm_promises.specs.Acts.IsMoveStep.{APop, AnEmpty, AGive as MoveGive}
-use Rattle.onvm_promises.specs.Passes.{EndsWithEmpties, HasOneSample, IsCorePass, IsDrained, IsMarksPass, IsReceivePass, IsSendPass, IsServed, IsTickPass, is_pop_of}
+use Rattle.onvm_promises.specs.Passes.{HasOneSample, IsCorePass, IsDrained, IsMarksPass, IsReceivePass, IsSendPass, IsServed, IsTickPass, is_pop_of}
 use Rattle.onvm_promises.specs.Passes.EndsWithEmpties.{NoEmpty, OneEmpty}
 use Rattle.onvm_core.specs.Places.{how_many}
 use Rattle.onvm_promises.specs.Rests.{IsSettledFeeder}
@@ -50,12 +49,12 @@ received_settled aged = record {
   ended = tt;
   paid = inl no_bit;
   paced =
-    ((λ known. omega arith), λ g. omega arith)
-    ◂ ((λ known. omega arith), λ g. omega arith)
-    ◂ ((λ known. omega arith), λ g. omega arith)
-    ◂ ((λ known. omega arith), λ g. omega arith)
-    ◂ ((λ known. omega arith), λ g. omega arith)
-    ◂ tt;
+      ((λ known. omega arith), λ g. omega arith)
+      ◂ ((λ known. omega arith), λ g. omega arith)
+      ◂ ((λ known. omega arith), λ g. omega arith)
+      ◂ ((λ known. omega arith), λ g. omega arith)
+      ◂ ((λ known. omega arith), λ g. omega arith)
+      ◂ tt;
 }
 
 pub received_is : (aged : Ages) → IsReceivePass setting 0 aged [] received
@@ -126,10 +125,10 @@ moved_settled aged = record {
   ended = tt;
   paid = inl no_bit;
   paced =
-    ((λ known. absurd (omega (arith, known))), λ g. few (0 == g))
-    ◂ ((λ known. absurd (omega (arith, known))), λ g. few (0 == g))
-    ◂ ((λ known. absurd (omega (arith, known))), λ g. few (0 == g))
-    ◂ tt;
+      ((λ known. absurd (omega (arith, known))), λ g. few (0 == g))
+      ◂ ((λ known. absurd (omega (arith, known))), λ g. few (0 == g))
+      ◂ ((λ known. absurd (omega (arith, known))), λ g. few (0 == g))
+      ◂ tt;
 }
 
 -- one pop at most of any ring

@@ -1,10 +1,9 @@
 -- Small plans for examples: of one the functions have the priorities 1 and 2, and of one the marks want an age.
-use Rattle.std.proofs.Common.{◌≡◌, ◌≢◌, ℕ, ◌<◌, ◌≤◌, List, [], ◌∷◌, refl, arith}
+use Rattle.std.proofs.Common.{[], ◌∷◌, refl, arith}
 use Rattle.std.specs.Prelude.{All}
 use Rattle.onvm_base.specs.declared.function.FunctionPlan.{FunctionPlan}
-use Rattle.onvm_base.specs.declared.function.Kind.TheVariants.{Forward, Guest}
 use Rattle.onvm_base.specs.declared.plan.Plan.{Plan}
-use Rattle.onvm_base.specs.Plan.{AreDifferent, IsChainPlan, IsFrom, IsFunction}
+use Rattle.onvm_base.specs.Plan.{AreDifferent, IsChainPlan, IsFunction}
 use Rattle.onvm_core.proofs.Plans.{differ_is, forwarding, forwards, is_forwarding, is_letter, is_through, narrow, pairs, through, two}
 
 abbrev pub first : FunctionPlan

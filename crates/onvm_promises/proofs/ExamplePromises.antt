@@ -1,5 +1,5 @@
 -- The four passes of one frame are what the roles' passes promise, each with the answer that one thing was done.
-use Rattle.std.proofs.Common.{◌≡◌, ℕ, zero, suc, ◌+◌, ◌^◌, ◌<◌, ◌≤◌, true, false, inl, inr, List, [], ◌∷◌, refl, subst, arith, None, Some}
+use Rattle.std.proofs.Common.{◌≡◌, ℕ, ◌+◌, false, [], ◌∷◌, refl, subst, arith, None, Some}
 use Rattle.onvm_base.specs.declared.ids.FnId.{FnId}
 use Rattle.onvm_base.specs.declared.ids.RingId.TheVariants.{Mail}
 use Rattle.onvm_base.specs.declared.limits.TheConstants.{MAIL_RING}
@@ -10,7 +10,7 @@ use Rattle.onvm_core.specs.declared.step.Act.TheVariants.{Post}
 use Rattle.onvm_core.specs.Logs.{Log}
 use Rattle.onvm_core.specs.Journals.{GoesThrough, Handling, journal}
 use Rattle.onvm_core.proofs.Steps.{◌◂◌}
-use Rattle.onvm_core.proofs.Walk.{f, entered, handled}
+use Rattle.onvm_core.proofs.Walk.{f, entered}
 use Rattle.onvm_core.proofs.WalkLogs.{setting}
 use Rattle.load_estimate.specs.declared.sample.Sample.{Sample}
 use Rattle.load_estimate.specs.declared.tick.Tick.{Tick}
@@ -113,8 +113,8 @@ tick = record {
   moment = 10000000;
   taken = 1;
   lines =
-    record { arrivals = 1; median = Some 100; share = Some (record { num = 100; den = 100; weight = 1024 }); weight = 1024 }
-    ∷ [];
+      record { arrivals = 1; median = Some 100; share = Some (record { num = 100; den = 100; weight = 1024 }); weight = 1024 }
+      ∷ [];
 }
 
 pub ticks_once : IsTickPromise setting 3 0 10000000 false (λ number. 0) [] ticked (sample 10000000 ∷ []) []

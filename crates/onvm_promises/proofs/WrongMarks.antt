@@ -1,5 +1,5 @@
 -- Wrong feeders: one never throttles though it finds high and low in time, and one throttles before the time.
-use Rattle.std.proofs.Common.{◌≡◌, ℕ, zero, suc, ◌<◌, ◌≤◌, true, false, inl, inr, [], ◌∷◌, ◌++◌, refl, sym, ◌∙◌, subst, arith, Some, None}
+use Rattle.std.proofs.Common.{◌≡◌, ℕ, zero, suc, ◌<◌, true, false, inl, inr, [], ◌∷◌, ◌++◌, refl, sym, ◌∙◌, arith, None}
 use Rattle.onvm_base.specs.declared.ids.RingId.TheVariants.{Lane}
 use Rattle.onvm_base.specs.declared.limits.TheConstants.{LAST_POST}
 use Rattle.onvm_base.specs.declared.outcome.Outcome.TheVariants.{RingFull}

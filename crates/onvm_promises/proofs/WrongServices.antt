@@ -1,7 +1,7 @@
 -- Wrong cores: one mails no sample in a pass that handled a frame, one serves a lane twice in a row, and one ends a
 -- function's service though budget, room and frames are left.
-use Rattle.std.proofs.Common.{◌≡◌, ℕ, zero, suc, eq-eqb, ◌+◌, ◌%◌, ◌*◌, ◌^◌, ◌<◌, ◌≤◌, Bool, true, false, not, inl, inr, [], ◌∷◌, ◌++◌, refl, sym, ◌∙◌, ap, subst, arith, append_assoc, None}
-use Rattle.std.specs.Prelude.{◌==◌, ◌&&◌, nat_lt}
+use Rattle.std.proofs.Common.{◌≡◌, ℕ, eq-eqb, ◌+◌, ◌%◌, ◌*◌, ◌^◌, ◌<◌, Bool, true, false, not, inl, inr, [], ◌∷◌, ◌++◌, refl, sym, ◌∙◌, ap, subst, arith, append_assoc, None}
+use Rattle.std.specs.Prelude.{◌==◌, ◌&&◌}
 use Rattle.std.proofs.lemmas.Bool.{cases_lt, lt-ltb, ne_eqb}
 use Rattle.std.proofs.lemmas.Nat.{mod_below}
 use Rattle.std.proofs.Math.Nat.{mod-add-mod, mod-eq_of_lt, mod_self}
@@ -9,11 +9,11 @@ use Rattle.onvm_base.specs.declared.ids.FnId.{FnId}
 use Rattle.onvm_base.specs.declared.ids.RingId.TheVariants.{Lane, Output, Mail}
 use Rattle.onvm_core.specs.declared.layout.Word.TheVariants.{Cell, Weight}
 use Rattle.onvm_core.specs.declared.step.Act.{Act}
-use Rattle.onvm_core.specs.declared.step.Act.TheVariants.{Empty, Full, Look, Pop, Push}
+use Rattle.onvm_core.specs.declared.step.Act.TheVariants.{Empty, Look, Pop, Push}
 use Rattle.onvm_core.specs.declared.step.Item.{Item}
 use Rattle.onvm_core.specs.declared.step.Item.TheVariants.{Buffer, Number}
 use Rattle.onvm_base.specs.declared.plan.Plan.{Plan}
-use Rattle.onvm_core.specs.Handling.{IsOwn, budget_left, is_push_on}
+use Rattle.onvm_core.specs.Handling.{budget_left, is_push_on}
 use Rattle.onvm_core.specs.Layouts.{feeder_count}
 use Rattle.onvm_core.specs.Logs.{Log, Setting, entry_parcel}
 use Rattle.onvm_core.specs.Places.{how_many, one_if}

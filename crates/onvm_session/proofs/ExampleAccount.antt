@@ -53,8 +53,8 @@ tick = record {
   moment = 0;
   taken = 1;
   lines =
-    record { arrivals = 1; median = Some 100; share = Some (record { num = 100; den = 100; weight = 1024 }); weight = 1024 }
-    ∷ [];
+      record { arrivals = 1; median = Some 100; share = Some (record { num = 100; den = 100; weight = 1024 }); weight = 1024 }
+      ∷ [];
 }
 
 abbrev pub run : RunView
