@@ -1,7 +1,7 @@
 -- The serial run of one frame meets what is asked of a run that has ended, so it has its account: the frame was sent, its
 -- sample was taken, and a tick counts it.
-use Rattle.std.proofs.Common.{◌≡◌, ℕ, zero, suc, ◌+◌, ◌^◌, ◌<◌, ◌≤◌, true, false, List, [], ◌∷◌, refl, sym, ap, subst, arith, Some, None}
-use Rattle.std.specs.Prelude.{◌==◌, All, length, slice_get}
+use Rattle.std.proofs.Common.{◌≡◌, ℕ, zero, suc, ◌<◌, ◌≤◌, true, false, List, [], ◌∷◌, refl, sym, ap, subst, arith, Some, None}
+use Rattle.std.specs.Prelude.{◌==◌, length, slice_get}
 use Rattle.std.proofs.lemmas.Bool.{both_ways, ne_eqb}
 use Rattle.std.proofs.lemmas.List.Elements.{All-replicate}
 use Rattle.std.proofs.lemmas.Option.{slice_get_within}
@@ -13,7 +13,7 @@ use Rattle.onvm_base.specs.declared.outcome.Outcome.TheVariants.{Sent}
 use Rattle.onvm_base.specs.declared.outcome.Record.{Record}
 use Rattle.onvm_core.specs.declared.entry.Entry.{Entry}
 use Rattle.onvm_core.specs.Blocks.{IsOfBlocks}
-use Rattle.onvm_core.specs.Journals.{GoesThrough, Handling, journal}
+use Rattle.onvm_core.specs.Journals.{GoesThrough, journal}
 use Rattle.onvm_core.specs.Layouts.{IsLayout, core_role}
 use Rattle.onvm_core.specs.Logs.{IsNumbered, entries_of_port}
 use Rattle.onvm_core.specs.Settings.{IsSetting}
@@ -40,7 +40,7 @@ use Rattle.onvm_session.specs.Turns.{Turn, joined_count, turn_steps}
 use Rattle.onvm_session.specs.Views.{turns_in}
 use Rattle.onvm_session.proofs.Accounted.{accounted, none_left}
 use Rattle.onvm_session.proofs.ExampleSteps.{all_back, history_is, past}
-use Rattle.onvm_session.proofs.ExampleTurns.{closing_is, final, lead_is, logs, tick_log, turns_are, whole}
+use Rattle.onvm_session.proofs.ExampleTurns.{closing_is, final, lead_is, logs, tick_log, whole}
 
 -- What the run hands back
 

@@ -1,6 +1,6 @@
 -- The steps of the serial run of one frame, turn after turn, are lawful, and are those that the first token saw.
-use Rattle.std.proofs.Common.{◌≡◌, ◌≢◌, ℕ, zero, suc, ◌+◌, ◌^◌, ◌<◌, true, inl, inr, [], ◌∷◌, ◌++◌, refl, sym, ◌∙◌, arith, None}
-use Rattle.std.specs.Prelude.{◌==◌, IsBitSet}
+use Rattle.std.proofs.Common.{◌≡◌, ◌≢◌, ℕ, zero, suc, ◌<◌, true, inl, inr, [], ◌∷◌, ◌++◌, refl, sym, ◌∙◌, arith, None}
+use Rattle.std.specs.Prelude.{◌==◌}
 use Rattle.std.proofs.lemmas.Bool.{cases_Bool}
 use Rattle.onvm_base.specs.declared.ids.RingId.{RingId}
 use Rattle.onvm_base.specs.declared.ids.RingId.TheVariants.{Lane, Output, Mail}
@@ -11,16 +11,16 @@ use Rattle.onvm_core.specs.declared.step.Act.TheVariants.{Empty, Join, Look, Pus
 use Rattle.onvm_core.specs.declared.step.Item.TheVariants.{Number}
 use Rattle.onvm_core.specs.declared.step.Step.{Step}
 use Rattle.onvm_core.specs.History.{History, content_of, is_live, place_of}
-use Rattle.onvm_core.specs.Layouts.{IsRing, consumer, producer, ring_size}
+use Rattle.onvm_core.specs.Layouts.{IsRing, consumer}
 use Rattle.onvm_core.specs.Lawful.{Allows, IsLawful}
-use Rattle.onvm_core.specs.Logs.{Log, log_of}
+use Rattle.onvm_core.specs.Logs.{log_of}
 use Rattle.onvm_core.specs.Words.{pool_bits}
 use Rattle.onvm_core.proofs.Steps.{◌◂◌, by, enters, gives, joins, leaves, looks, pops, posts, splits, takes}
 use Rattle.onvm_core.proofs.Walk.{first_bit, layout}
 use Rattle.onvm_promises.proofs.ExamplePasses.{moved, received, served, taken}
 use Rattle.onvm_session.specs.Turns.{steps_of}
 use Rattle.onvm_session.specs.Views.{IsHistoryOf}
-use Rattle.onvm_session.proofs.ExampleTurns.{all_but_one, all_free, closing_pass, final, lead, logs}
+use Rattle.onvm_session.proofs.ExampleTurns.{all_but_one, all_free, closing_pass, final, logs}
 
 -- what each act asks for that Steps has no line for
 

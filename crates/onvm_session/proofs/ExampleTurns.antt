@@ -1,6 +1,6 @@
 -- A serial run of one frame, as its first token saw it: one round, and the turn that closes the run. Each turn is a whole
 -- pass.
-use Rattle.std.proofs.Common.{◌≡◌, ℕ, zero, suc, ◌+◌, ◌^◌, ◌<◌, [], ◌∷◌, ◌++◌, refl, arith, subst}
+use Rattle.std.proofs.Common.{◌≡◌, ℕ, zero, suc, [], ◌∷◌, ◌++◌, refl, arith, subst}
 use Rattle.onvm_base.specs.declared.ids.FnId.{FnId}
 use Rattle.onvm_base.specs.declared.ids.RingId.TheVariants.{Mail}
 use Rattle.onvm_base.specs.declared.limits.TheConstants.{MAIL_RING}
