@@ -2,7 +2,9 @@
 use Rattle.std.proofs.Common.{◌≡◌, ℕ, zero, suc, ◌<◌, true, List, [], ◌∷◌, refl, sym, ap, subst, arith, Some, None}
 use Rattle.std.specs.Prelude.{slice_get}
 use Rattle.std.proofs.lemmas.Bool.{both_ways}
-use Rattle.std.proofs.lemmas.List.Elements.{All-replicate}
+use Rattle.std.proofs.lemmas.List.Elements.{All-nil, All-replicate}
+use Rattle.onvm_core.specs.Settings.{IsSetting}
+use Rattle.onvm_core.proofs.WalkEnds.{walk_is_setting}
 use Rattle.onvm_base.specs.declared.ids.FnId.{FnId}
 use Rattle.onvm_core.specs.Receiving.ReceivePhase.{Between}
 use Rattle.load_estimate.specs.declared.tick.Tick.{Tick}
@@ -63,11 +65,17 @@ ranges = record {
   core_of = All-replicate (λ core. core < 1) 32 0 (omega arith);
 }
 
-numbered : IsNumbered setting
-numbered port done e found = absurd (let off : None ≡ Some e = found in cc)
+idle_is_setting : IsSetting setting
+idle_is_setting = record {
+  layout = walk_is_setting.layout;
+  numbered = λ port done e found. absurd (let off : None ≡ Some e = found in cc);
+  ports = All-nil _;
+  chains = All-nil _;
+  few = λ port. omega arith;
+}
 
 closed : IsClosed setting run
-closed = record { past = past; history = history_is; left = sym (none_left setting past 1024 (λ buf. refl)) }
+closed = record { past = past; history = history_is; left = sym (none_left setting past (λ buf known. refl)) }
 
 blocks_are : (role : ℕ) → role < 4 → IsOfBlocks setting role (logs role)
 blocks_are zero less = tt
@@ -81,10 +89,6 @@ feeders_are : (feeder : ℕ) → feeder < 2
 feeders_are zero less = settled 0 (aged_of setting moments logs 0)
 feeders_are (suc zero) less = send_settled (aged_of setting moments logs 1)
 feeders_are (suc (suc n)) less = absurd (omega (arith, less))
-
-ended_are : (port : ℕ) → port < 1 → receive_phase setting (logs port) ≡ Between 0
-ended_are zero less = refl
-ended_are (suc n) less = absurd (omega (arith, less))
 
 closes : (t : Turn) (ts : List Turn) → turns_in final ≡ t ∷ ts
     → IsTickPass setting t.role (log_until (joined_count t.role ts) (logs t.role))
@@ -123,8 +127,7 @@ ended = record {
   feeders = feeders_are;
   whole = λ e. whole (aged_of setting moments logs);
   timed = λ role number less. refl;
-  ended = ended_are;
-  records_of_act = refl;
+  recorded = refl;
   closing = closes;
   journals = λ g known.
       (tt, subst (λ (h : FnId). GoesThrough (acts h.0) tt (journal h (logs (core_role layout h.0))) tt) (only g known) refl);
@@ -166,5 +169,4 @@ shares = record {
 
 idle_accounted : IsAccounted true (λ n. ⊥) is_cost acts (λ g. tt) setting run
 idle_accounted =
-    accounted true (λ n. ⊥) is_cost acts (λ g. tt) setting moments run ranges numbered (omega arith) closed ended lists
-    shares
+    accounted true (λ n. ⊥) is_cost acts (λ g. tt) setting moments run ranges idle_is_setting closed ended lists shares

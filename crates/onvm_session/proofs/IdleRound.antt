@@ -66,7 +66,7 @@ pub only : (g : FnId) → g.0 < 1 → f ≡ g
 only g less = let zero_is : 0 ≡ g.0 = omega (arith, less) in ap (λ (n : ℕ). record { 0 = n }) zero_is
 
 pub settled : (feeder : ℕ) (aged : Ages) → IsSettledFeeder setting feeder aged []
-settled feeder aged = record { marked = tt; ended = refl; paid = inl no_bit; paced = tt }
+settled feeder aged = record { marked = tt; ended = tt; paid = inl no_bit; paced = tt }
 
 pub receive_is : (aged : Ages) → IsReceivePass setting 0 aged [] []
 receive_is aged = record {
@@ -118,8 +118,8 @@ core_is = record {
 
 pub send_settled : (aged : Ages) → IsSettledFeeder setting 1 aged send_log
 send_settled aged = record {
-  marked = ((refl, inl no_bit), tt);
-  ended = refl;
+  marked = (inl no_bit, tt);
+  ended = tt;
   paid = inl no_bit;
   paced = (((λ less. absurd (omega (arith, less))), λ g. omega arith), tt);
 }

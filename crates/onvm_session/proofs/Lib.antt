@@ -17,6 +17,7 @@ pub mod Rounds
 pub mod Serial
 pub mod SerialTicking
 pub mod Session
+pub mod Starting
 pub mod Stepping
 pub mod TickTurns
 pub mod Turning
