@@ -22,3 +22,4 @@ pub mod Stepping
 pub mod TickTurns
 pub mod Turning
 pub mod Weaving
+pub mod WrongRuns
