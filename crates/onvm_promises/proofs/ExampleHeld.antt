@@ -1,5 +1,5 @@
--- A mark is raised, holds a frame, and is cleared, in three passes of a receive role. A burst is two, and so is the high
--- mark; a reading counts from 1,000 nanoseconds on.
+-- A mark is raised, holds a frame, and is cleared, in three passes of a receive role. A burst is two, and so is the
+-- high mark; a reading counts from 1,000 nanoseconds on.
 use Rattle.std.proofs.Common.{◌≡◌, ℕ, zero, suc, ◌^◌, ◌/◌, true, false, inl, inr, [], ◌∷◌, ◌++◌, refl, sym, ◌∙◌, arith, Some, None}
 use Rattle.std.specs.Prelude.{◌==◌}
 use Rattle.std.proofs.lemmas.Bool.{ne_eqb}

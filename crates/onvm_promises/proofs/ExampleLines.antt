@@ -1,6 +1,7 @@
 -- Worked windows, shares, lines and ticks, of two functions with priorities 1 and 2 on one core.
 use Rattle.std.proofs.Common.{◌≡◌, ℕ, true, false, List, [], ◌∷◌, refl, Some, None}
 use Rattle.load_estimate.specs.declared.sample.Sample.{Sample}
+use Rattle.load_estimate.specs.declared.tick.Share.{Share}
 use Rattle.load_estimate.specs.declared.tick.Tick.{Tick}
 use Rattle.load_estimate.specs.declared.tick.TickLine.{TickLine}
 use Rattle.load_estimate.specs.Windows.{arrivals_of, median_of}
@@ -12,7 +13,7 @@ use Rattle.onvm_promises.proofs.ExamplePlans.{first, second, weighted}
 abbrev pub sample : (function moment count time : ℕ) → Sample
 sample f moment count time = record { function = record { 0 = f }; moment = moment; count = count; time = time }
 
--- of function 0 four samples of 25 frames, not in the order of their times; of function 1 one of 100 frames between them
+-- of function 0 four samples of 25 frames, not in order of times; of function 1 one of 100 frames, between them
 abbrev pub five : List Sample
 five =
     sample 0 0 25 40 ∷ sample 0 1 25 10 ∷ sample 1 1 100 5 ∷ sample 0 2 25 30 ∷ sample 0 3 25 20 ∷ []
@@ -61,11 +62,14 @@ no_share = refl
 
 -- Ticks
 
+abbrev share_for : (num weight : ℕ) → Share
+share_for num weight = record { num = num; den = 2500; weight = weight }
+
 -- the lines of these samples
 abbrev lines : List TickLine
 lines =
-    record { arrivals = 100; median = Some 20; share = Some (record { num = 2000; den = 2500; weight = 819 }); weight = 819 }
-    ∷ record { arrivals = 100; median = Some 5; share = Some (record { num = 1000; den = 2500; weight = 409 }); weight = 409 }
+    record { arrivals = 100; median = Some 20; share = Some (share_for 2000 819); weight = 819 }
+    ∷ record { arrivals = 100; median = Some 5; share = Some (share_for 1000 409); weight = 409 }
     ∷ []
 
 abbrev first_tick : Tick

@@ -13,6 +13,7 @@ use Rattle.onvm_core.proofs.Steps.{◌◂◌}
 use Rattle.onvm_core.proofs.Walk.{f, entered}
 use Rattle.onvm_core.proofs.WalkLogs.{setting}
 use Rattle.load_estimate.specs.declared.sample.Sample.{Sample}
+use Rattle.load_estimate.specs.declared.tick.Share.{Share}
 use Rattle.load_estimate.specs.declared.tick.Tick.{Tick}
 use Rattle.onvm_promises.specs.declared.pass.Pass.TheVariants.{Did}
 use Rattle.onvm_promises.specs.Kept.{FeederKeeps}
@@ -107,13 +108,16 @@ ticked_is = record {
       (record { bounded = omega arith; fewer = λ less. refl });
 }
 
+abbrev whole_share : Share
+whole_share = record { num = 100; den = 100; weight = 1024 }
+
 abbrev tick : Tick
 tick = record {
   number = 1;
   moment = 10000000;
   taken = 1;
   lines =
-      record { arrivals = 1; median = Some 100; share = Some (record { num = 100; den = 100; weight = 1024 }); weight = 1024 }
+      record { arrivals = 1; median = Some 100; share = Some whole_share; weight = 1024 }
       ∷ [];
 }
 

@@ -65,7 +65,8 @@ pub not_too_early : (aged : Ages) → aged 0 0 ≡ false → ¬ IsMarksPass sett
 not_too_early aged late pass = pass.settled.marked.0.unsettled (late_bits aged late)
 
 -- a nanosecond before the age no pass promises so, whatever is kept and answered
-not_at_999 : (keeps : FeederKeeps) (answer : Pass) → ¬ IsReceivePromise setting 0 999 at_first entered held_log keeps answer
+not_at_999 : (keeps : FeederKeeps) (answer : Pass)
+    → ¬ IsReceivePromise setting 0 999 at_first entered held_log keeps answer
 not_at_999 keeps answer promise =
     promise.so_far.rests.feeder.marked.1.0.unsettled
     (late_bits (aged_by setting 0 (moment_then at_first 10 999) held_log) young)

@@ -1,5 +1,5 @@
--- The serial run of one frame meets what is asked of a run that has ended, so it has its account: the frame was sent, its
--- sample was taken, and a tick counts it.
+-- The serial run of one frame meets what is asked of a run that has ended, so it has its account: the frame was sent,
+-- its sample was taken, and a tick counts it.
 use Rattle.std.proofs.Common.{◌≡◌, ℕ, zero, suc, ◌<◌, ◌≤◌, true, false, List, [], ◌∷◌, refl, sym, ap, subst, arith, Some, None}
 use Rattle.std.specs.Prelude.{◌==◌, length, slice_get}
 use Rattle.std.proofs.lemmas.Bool.{both_ways, ne_eqb}
@@ -22,6 +22,7 @@ use Rattle.onvm_core.proofs.Steps.{◌◂◌}
 use Rattle.onvm_core.proofs.Walk.{entered, f, layout}
 use Rattle.onvm_core.proofs.WalkLogs.{entry, setting}
 use Rattle.load_estimate.specs.declared.sample.Sample.{Sample}
+use Rattle.load_estimate.specs.declared.tick.Share.{Share}
 use Rattle.load_estimate.specs.declared.tick.Tick.{Tick}
 use Rattle.onvm_promises.specs.Lines.{weights_posted}
 use Rattle.onvm_promises.specs.Passes.{IsTickPass}
@@ -47,13 +48,16 @@ use Rattle.onvm_session.proofs.ExampleTurns.{closing_is, final, lead_is, logs, t
 abbrev pub sample : Sample
 sample = record { function = f; moment = 0; count = 1; time = 100 }
 
+abbrev pub whole_share : Share
+whole_share = record { num = 100; den = 100; weight = 1024 }
+
 abbrev pub tick : Tick
 tick = record {
   number = 1;
   moment = 0;
   taken = 1;
   lines =
-      record { arrivals = 1; median = Some 100; share = Some (record { num = 100; den = 100; weight = 1024 }); weight = 1024 }
+      record { arrivals = 1; median = Some 100; share = Some whole_share; weight = 1024 }
       ∷ [];
 }
 

@@ -1,5 +1,5 @@
--- A serial run of one frame, as its first token saw it: one round, and the turn that closes the run. Each turn is a whole
--- pass.
+-- A serial run of one frame, as its first token saw it: one round, and the turn that closes the run. Each turn is a
+-- whole pass.
 use Rattle.std.proofs.Common.{◌≡◌, ℕ, zero, suc, [], ◌∷◌, ◌++◌, refl, arith, subst}
 use Rattle.onvm_base.specs.declared.ids.FnId.{FnId}
 use Rattle.onvm_base.specs.declared.ids.RingId.TheVariants.{Mail}
@@ -33,7 +33,7 @@ logs (suc (suc zero)) = served
 logs (suc (suc (suc zero))) = tick_log
 logs (suc (suc (suc (suc n)))) = []
 
--- The first token's log: behind each turn it looks at the first word of the pool, from which buffer 0 is out for two turns
+-- The first token's log: behind each turn it looks at the first word of the pool. Buffer 0 is out of it for two turns
 
 abbrev pub all_free : ℕ
 all_free = 18446744073709551615

@@ -47,8 +47,8 @@ module _ {S : Type 0} (serial : Bool) (may_tell : ℕ → Type 0) (cost_may_take
 not_without_its_record : (may_tell : ℕ → Type 0) (cost_may_take : ℕ → ℕ → Type 0)
     → ¬ IsAccounted true may_tell cost_may_take counts (λ g. 0) one_frame.setting (record example.run { records = [] })
 not_without_its_record may_tell cost_may_take =
-    no_other_count true may_tell cost_may_take counts (λ g. 0) one_frame.setting (record example.run { records = [] }) 0 0
-    one_frame.entry (omega arith) refl (λ e. omega (arith, e))
+    no_other_count true may_tell cost_may_take counts (λ g. 0) one_frame.setting
+    (record example.run { records = [] }) 0 0 one_frame.entry (omega arith) refl (λ e. omega (arith, e))
 
 -- nor told twice
 not_told_twice : (may_tell : ℕ → Type 0) (cost_may_take : ℕ → ℕ → Type 0)
