@@ -6,3 +6,5 @@
 //! token knows: its own log, the logs of the roles that it joined, and of each join how many steps
 //! the role had made.
 #![tactic(auto)]
+
+pub mod laws;
