@@ -1,5 +1,5 @@
--- Wrong passes that leave work behind: a receive role leaves frames though its burst isn't full, a transmit role
--- parcels and the tick role samples though their ring isn't found empty. And ticks that are made too early, or left out.
+-- Wrong passes that leave work behind: a receive role leaves frames though its burst isn't full, a transmit role leaves
+-- parcels and the tick role samples though their ring isn't found empty. And ticks that come too early, or not at all.
 use Rattle.std.proofs.Common.{◌≡◌, ℕ, ◌+◌, ◌^◌, ◌<◌, Bool, true, false, inl, inr, List, [], ◌∷◌, ◌++◌, length, refl, sym, ◌∙◌, ap, arith, length-append}
 use Rattle.std.specs.Prelude.{◌||◌, ◌≢◌, min}
 use Rattle.std.proofs.lemmas.Bool.{cases_Bool}
