@@ -18,12 +18,13 @@ use Rattle.onvm_promises.specs.Times.{aged_by}
 use Rattle.onvm_promises.proofs.Keeping.{earlier_moment, later_moment}
 use Rattle.onvm_session.specs.Accounts.{IsWhole, aged_of}
 use Rattle.onvm_session.specs.Moments.{moment_of_round, place_of_turn, round_of_turn}
-use Rattle.onvm_session.specs.Sessions.{AreTicksKept, AreTicksOfRounds, AreTicksTimed, IsRolePass, IsRoleSoFar, IsSession, Keeps, OthersKeep, after_turn, with_keeps, with_log, with_moment}
+use Rattle.onvm_session.specs.Sessions.{AllTold, AreTicksKept, AreTicksOfRounds, AreTicksTimed, IsRolePass, IsRoleSoFar, IsSession, Keeps, OthersKeep, after_phase, after_turn, with_keeps, with_log, with_moment}
 use Rattle.onvm_session.specs.Turns.{Turn}
 use Rattle.onvm_session.specs.Views.{FinalView, place_in, role_at, turns_in}
 use Rattle.onvm_session.proofs.Passing.{Passed, passed_of, so_far_as, whole_at}
 use Rattle.onvm_session.proofs.Places.{place_below, role_below, round_ends, round_stays, tick_last}
 use Rattle.onvm_session.proofs.LastRound.{ends_round}
+use Rattle.onvm_session.proofs.Phasing.{phase_next}
 use Rattle.onvm_session.proofs.Serial.{read_rounds, serial_turn}
 use Rattle.onvm_session.proofs.TickTurns.{kept_next, rounds_next}
 
@@ -229,3 +230,57 @@ timed_pass may_tell moment now added log earlier answered number less =
           subst may_tell (sym (later_moment moment (length log) now number (ltb-false number (length log) late)))
           answered
     ]
+
+-- The same by the log behind the turn
+
+pub turn_keeps : {S : Type 0} (may_tell : ℕ → Type 0) (acts : ℕ → S → Handling → S → Type 0) (start state now : ℕ → S)
+    (cost_may_take : ℕ → ℕ → Type 0) (setting : Setting) (moments : ℕ → ℕ → ℕ) (first latest : ℕ) (final : FinalView)
+    (keeps : ℕ → Keeps) (role seen : ℕ) (after : Log) (kept : Keeps) (answer : Pass)
+    → IsLayout setting.layout
+    → IsSession true may_tell acts start state cost_may_take setting moments first latest final keeps
+    → role ≡ role_at setting.layout (place_in setting.layout final.lead)
+    → IsRolePass acts start now cost_may_take setting role (kind_of setting.layout role) first
+    (moment_of_round (round_of_turn setting.layout (turns_in final))) false (moments role) (final.logs role) after
+    (keeps role) kept answer
+    → is_complete answer ≡ true → OthersKeep setting role state now
+    → (later : ℕ)
+    × IsSession true may_tell acts start now cost_may_take setting
+    (with_moment role (moment_then (moments role) (length (final.logs role))
+    (moment_of_round (round_of_turn setting.layout (turns_in final)))) moments)
+    first later (after_turn role seen after final) (with_keeps role kept keeps)
+turn_keeps may_tell acts start state now cost_may_take setting moments first latest final keeps role seen after kept answer
+    ranges session at pass complete others =
+    let passed = turn_passed may_tell acts start state now cost_may_take setting moments first latest final keeps role seen
+    after kept answer ranges session at pass complete others in
+    let behind = session_turn may_tell acts start state now cost_may_take setting moments first latest final keeps role
+    seen after kept answer ranges session at pass complete others in (
+      behind.0,
+      subst (λ (log : Log).
+          IsSession true may_tell acts start now cost_may_take setting
+          (with_moment role (moment_then (moments role) (length (final.logs role))
+          (moment_of_round (round_of_turn setting.layout (turns_in final)))) moments)
+          first behind.0 (after_turn role seen log final) (with_keeps role kept keeps)) (sym passed.grown) behind.1,
+    )
+
+-- From phase to phase: what each role's passes promise makes the invariant behind the phase
+pub phase_keeps : {S : Type 0} (may_tell : ℕ → Type 0) (acts : ℕ → S → Handling → S → Type 0) (start state now : ℕ → S)
+    (cost_may_take : ℕ → ℕ → Type 0) (setting : Setting) (moments moments_now : ℕ → ℕ → ℕ) (first latest later : ℕ)
+    (final : FinalView) (keeps keeps_now : ℕ → Keeps) (seen : ℕ) (logs : ℕ → Log)
+    → IsSession false may_tell acts start state cost_may_take setting moments first latest final keeps
+    → ((role : ℕ) → first_role setting.layout ≤ role → logs role ≡ final.logs role)
+    → ((role number : ℕ) → number < length (logs role) → may_tell (moments_now role number))
+    → ((role : ℕ) → role < first_role setting.layout
+    → IsRoleSoFar acts start now cost_may_take setting role (kind_of setting.layout role) (moments_now role) (logs role)
+    (keeps_now role))
+    → AreTicksKept setting first later (logs (tick_role setting.layout)) (keeps_now (tick_role setting.layout))
+    → AllTold may_tell (keeps_now (tick_role setting.layout)).ticks
+    → IsSession false may_tell acts start now cost_may_take setting moments_now first later
+    (after_phase (first_role setting.layout) seen logs final) keeps_now
+phase_keeps may_tell acts start state now cost_may_take setting moments moments_now first latest later final keeps
+    keeps_now seen logs session others timed roles ticks told =
+    record {
+      so_far = phase_next may_tell setting moments moments_now final seen logs session.so_far others timed;
+      roles = roles;
+      ticks = ticks;
+      timed_ticks = told;
+    }

@@ -15,20 +15,9 @@ use Rattle.onvm_promises.specs.Kept.{AreFeederKeeps}
 use Rattle.onvm_promises.specs.Rests.{IsSettledFeeder}
 use Rattle.onvm_session.specs.Moments.{moment_of_round}
 use Rattle.onvm_session.specs.Sessions.{IsRoleSoFar, IsSession, Keeps, IsSerialSoFar, IsPhasedSoFar, IsSoFar, AreTicksTimed}
-use Rattle.onvm_session.specs.Views.{FinalView}
+use Rattle.onvm_session.specs.Starts.{FirstMoment, first_view, no_keeps}
 use Rattle.onvm_session.specs.Views.ArePhases.{NoPhase}
 use Rattle.onvm_session.specs.Views.AreTurns.{NoTurn}
-
-abbrev pub first_view : FinalView
-first_view = record { lead = []; logs = λ role. []; counts = [] }
-
-abbrev pub no_keeps : Keeps
-no_keeps = record {
-  feeder = record { outcomes = record { records = []; sent = [] }; posts = [] };
-  core = record { yields = 0; lost = 0 };
-  samples = [];
-  ticks = [];
-}
 
 settled : (setting : Setting) (feeder : ℕ) (aged : Ages) → IsSettledFeeder setting feeder aged []
 settled setting feeder aged = record { marked = tt; ended = tt; paid = inl no_bit; paced = tt }
@@ -93,11 +82,6 @@ so_far_starts false may_tell setting moments = record {
   kept = λ role. refl;
   timed = λ role number less. absurd (omega (arith, less));
 }
-
--- the moment before which no tick was made: in a serial session 0
-abbrev pub FirstMoment : Bool → ℕ → Type 0
-FirstMoment true first = first ≡ 0
-FirstMoment false first = Unit {0}
 
 ticks_start : (serial : Bool) (may_tell : ℕ → Type 0) (setting : Setting) (first : ℕ) → FirstMoment serial first
     → AreTicksTimed serial may_tell setting 0 first first no_keeps

@@ -4,5 +4,6 @@ pub mod Lists
 pub mod Moments
 pub mod SerialTicks
 pub mod Sessions
+pub mod Starts
 pub mod Turns
 pub mod Views
