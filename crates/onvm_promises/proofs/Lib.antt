@@ -1,6 +1,14 @@
 pub mod Aging
 pub mod BlockPacing
 pub mod Evening
+pub mod ExampleAges
+pub mod ExampleFull
+pub mod ExampleHeld
+pub mod ExampleIdle
+pub mod ExampleLines
+pub mod ExamplePasses
+pub mod ExamplePlans
+pub mod ExamplePromises
 pub mod Fitting
 pub mod Following
 pub mod Keeping
@@ -13,3 +21,6 @@ pub mod Stretches
 pub mod Ticking
 pub mod Timing
 pub mod Unmarked
+pub mod WrongMarks
+pub mod WrongMoves
+pub mod WrongServices
