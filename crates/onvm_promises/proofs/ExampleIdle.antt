@@ -78,6 +78,7 @@ served_once = record {
   ends = inr (inr (OneEmpty f 1 1 _ refl (OneEmpty f 0 0 _ refl (NoEmpty _))));
   once = refl;
   alone = refl;
+  barred_once = omega arith;
   behind = λ none. refl;
 }
 
@@ -89,6 +90,7 @@ core_is = record {
     blocks = (own, omega arith) ◂ (own, omega arith) ◂ ((own, omega arith), refl) ◂ (own, refl) ◂ tt;
     hand = refl;
     tries = refl ◂ refl ◂ tt ◂ tt ◂ tt;
+    looks = tt ◂ tt ◂ refl ◂ tt ◂ tt;
     samples = tt ◂ tt ◂ tt ◂ tt ◂ tt;
     sampled = λ g mine. refl;
   };

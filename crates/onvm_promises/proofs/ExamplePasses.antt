@@ -94,6 +94,7 @@ served_once = record {
   ends = inr (inr (OneEmpty f 0 1 _ refl (OneEmpty f 1 0 _ refl (NoEmpty _))));
   once = refl;
   alone = refl;
+  barred_once = omega arith;
   behind = λ none. refl;
 }
 
@@ -105,6 +106,7 @@ served_is = record {
     blocks = own ◂ (own, omega arith) ◂ (own, omega arith) ◂ ((own, omega arith), refl) ◂ walk_follows 2;
     hand = refl;
     tries = tt ◂ refl ◂ refl ◂ tt ◂ tt ◂ refl ◂ tt ◂ tt ◂ tt;
+    looks = tt ◂ tt ◂ tt ◂ refl ◂ tt ◂ tt ◂ refl ◂ tt ◂ tt;
     samples = (refl, omega arith) ◂ tt ◂ tt ◂ tt ◂ tt ◂ tt ◂ tt ◂ tt ◂ tt;
     sampled = λ g mine. subst (λ (h : FnId). is_sampled h served ≡ true) (only g mine.known) refl;
   };

@@ -21,6 +21,7 @@ pub mod Stretches
 pub mod Ticking
 pub mod Timing
 pub mod Unmarked
+pub mod WrongLooks
 pub mod WrongMarks
 pub mod WrongMoves
 pub mod WrongServices

@@ -1,10 +1,9 @@
 -- What the answer of a pass tells.
-use Rattle.std.specs.Prelude.{ℕ, ◌≡◌, ◌<◌, ◌⊎◌, Bool, true, false, not, ◌==◌, ◌&&◌, length}
+use Rattle.std.specs.Prelude.{ℕ, ◌≡◌, ◌<◌, ◌⊎◌, Bool, true, false, length}
 use Rattle.onvm_base.specs.declared.ids.FnId.{FnId}
 use Rattle.onvm_base.specs.declared.ids.RingId.TheVariants.{Lane, Output}
-use Rattle.onvm_core.specs.declared.layout.Word.TheVariants.{Cell}
 use Rattle.onvm_core.specs.declared.step.Act.{Act}
-use Rattle.onvm_core.specs.declared.step.Act.TheVariants.{Push, Pop, Look}
+use Rattle.onvm_core.specs.declared.step.Act.TheVariants.{Push, Pop}
 use Rattle.onvm_core.specs.Handling.{IsOwn}
 use Rattle.onvm_core.specs.Logs.{Log, Setting, entries_of_port}
 use Rattle.onvm_core.specs.Places.{how_many}
@@ -12,7 +11,7 @@ use Rattle.onvm_core.specs.Receiving.{done_count, receive_phase}
 use Rattle.onvm_core.specs.Sending.{Reads}
 use Rattle.onvm_promises.specs.declared.pass.Pass.{Pass}
 use Rattle.onvm_promises.specs.declared.pass.Pass.TheVariants.{Did, Idle, Wanting, Stopped}
-use Rattle.onvm_promises.specs.Passes.{ran_dry}
+use Rattle.onvm_promises.specs.Passes.{ran_dry, saw_full}
 use Rattle.onvm_core.specs.Layouts.{feeder_count}
 
 -- the pass wasn't cut short
@@ -50,10 +49,6 @@ IsIdleReceiver setting port log =
 -- each output ring that the role reads was found empty
 abbrev pub IsIdleSender : Setting → (role : ℕ) → Log → Type 0
 IsIdleSender setting role added = (f : FnId) → Reads setting role f → ran_dry (Output f) added ≡ true
-
-abbrev pub saw_full : FnId → Act → Bool
-saw_full f (Look (Cell (Output g) at) seen told) = (g.0 == f.0) && not (seen == 0)
-saw_full f _ = false
 
 -- of each function of the core the output ring was found full, or each lane empty
 abbrev pub IsIdleCore : Setting → (role : ℕ) → Log → Type 0
