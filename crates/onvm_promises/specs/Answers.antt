@@ -21,13 +21,13 @@ is_complete Idle = true
 is_complete Wanting = false
 is_complete Stopped = false
 
--- the answer tells this number of frames with a block, handled or moved, or of samples and ticks, and Idle comes only
--- without one, where there was nothing to do
-abbrev pub Tells : Pass → ℕ → Type 0 → Type 0
-Tells (Did n) work idle = (0 < n) × (n ≡ work)
-Tells Idle work idle = (work ≡ 0) × idle
-Tells Wanting work idle = Unit {0}
-Tells Stopped work idle = Unit {0}
+-- the answer tells this number of frames with a block, handled or moved, or of samples and ticks. Idle comes only without
+-- one, where there was nothing to do, and Stopped only of a role that may stop
+abbrev pub Tells : Pass → ℕ → (idle may_stop : Type 0) → Type 0
+Tells (Did n) work idle may_stop = (0 < n) × (n ≡ work)
+Tells Idle work idle may_stop = (work ≡ 0) × idle
+Tells Wanting work idle may_stop = Unit {0}
+Tells Stopped work idle may_stop = may_stop
 
 -- a frame was handled, by a core; and one was moved, by a transmit role
 
