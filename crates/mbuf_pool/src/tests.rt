@@ -1,7 +1,7 @@
 //! Frames with buffers, over ends.
 ghost use Rattle.std.specs.Prelude.{◌≡◌, ◌<◌, ◌≤◌, [], IfOk, length, replicate};
 ghost use Rattle.onvm_base.specs.declared.limits.TheConstants.{MAX_HOPS};
-ghost use Rattle.onvm_base.specs.declared.ids.RingId.TheVariants.{Lane};
+ghost use Rattle.onvm_base.specs.declared.ids.RingId.TheVariants.{Lane, Output};
 ghost use Rattle.onvm_core.specs.Layouts.{IsLayout};
 ghost use Rattle.onvm_board.specs.Tokens.{Carries, parcel_in};
 ghost use Rattle.desc_ring.specs.Ends.{IsHeadOf, IsTailOf};
@@ -11,8 +11,8 @@ use crate::giving::{give, give_back, send};
 use crate::part::Part;
 use desc_ring::{Head, Tail};
 use onvm_base::{
-    BufId, ChainId, FnId, FrameId, NoMemory, Outcome, Packet, PortId, Record, RingId, Stamp,
-    Verdict,
+    BufId, ChainId, FnId, FrameId, NoMemory, Outcome, Packet, PortId, Record, RingId, SentFrame,
+    Stamp, Verdict,
 };
 use onvm_board::{Board, Token};
 use onvm_core::{Crumb, Layout, Parcel, Trail};
@@ -92,45 +92,6 @@ fn add_crumb(board: &Board, token: &mut Token, buf: BufId)
     }
 }
 
-#[test]
-fn one_buffer_goes_the_whole_way_and_meanwhile_a_second_frame_finds_none(rt: HostRuntime) {
-    let (board, mut first) = Board::make(rt.alloc(), &layout(1)).expect(&rt, "memory");
-    let lane = RingId::Lane(FnId(0), 0);
-    let output = RingId::Output(FnId(0));
-    let part = Part::of(&layout(1), PortId(0));
-    let mut receive = board.split(&mut first, 0);
-    let mut transmit = board.split(&mut first, 1);
-    let mut core = board.split(&mut first, 2);
-    let entered = parcel(rt.alloc(), 1).expect(&rt, "memory");
-
-    let buf = part
-        .take(&board, &mut receive, frame(1))
-        .expect(&rt, "a buffer");
-    drop(board.lend(&mut receive, buf, Some(entered)));
-    let mut tail = Tail::at(&board, lane, 64);
-    tail.push(&board, &mut receive, buf).expect(&rt, "room");
-    assert_eq!(rt; part.take(&board, &mut receive, frame(2)), None);
-
-    let mut head = Head::at(&board, lane, 64);
-    let buf = head.pop(&board, &mut core).expect(&rt, "the frame");
-    add_crumb(&board, &mut core, buf);
-    let mut tail = Tail::at(&board, output, 8);
-    tail.push(&board, &mut core, buf).expect(&rt, "room");
-
-    let mut head = Head::at(&board, output, 8);
-    let buf = head.pop(&board, &mut transmit).expect(&rt, "the frame");
-    let sent = send(&board, &mut transmit, buf, 0);
-    assert_eq!(rt; sent.frame, frame(1));
-    assert_eq!(rt; sent.stamp.nanos, 5);
-    assert_eq!(rt; sent.packet.bytes(), [1, 2, 3].as_slice());
-    assert_eq!(rt; head.pop(&board, &mut transmit), None);
-
-    board.join(&mut first, receive);
-    board.join(&mut first, transmit);
-    board.join(&mut first, core);
-    assert_eq!(rt; board.close(first).left(), 0);
-}
-
 // A frame enters by the lane. The answer is its buffer, or none where the lane is full or the pool empty.
 fn enter(
     alloc: Global,
@@ -161,6 +122,70 @@ fn enter(
         return Ok(None);
     }
     Ok(Some(buf))
+}
+
+// The next frame of a lane is handled, and goes on the output ring.
+fn handle(board: &Board, token: &mut Token, lane: &mut Head, output: &mut Tail) -> bool
+    requires head { IsHeadOf board.now lane.old token.old }
+    requires tail { IsTailOf board.now output.old token.old }
+    requires rings { (lane.old.spot.ring ≡ Lane (record { 0 = 0 }) 0) × (output.old.spot.ring ≡ Output (record { 0 = 0 })) }
+    requires empty_handed { token.old.hand ≡ [] }
+    ensures same { (token.new.board ≡ token.old.board) × (token.new.role ≡ token.old.role) }
+    ensures empty_handed { token.new.hand ≡ [] }
+{
+    let Some(buf) = lane.pop(board, token) else {
+        return false;
+    };
+    add_crumb(board, token, buf);
+    if output.push(board, token, buf).is_err() {
+        let ring = output.spot().ring;
+        drop(give(board, token, buf, Outcome::RingFull { ring }));
+        return false;
+    }
+    true
+}
+
+// The next frame of an output ring leaves.
+fn leave(board: &Board, token: &mut Token, output: &mut Head) -> Option<SentFrame>
+    requires head { IsHeadOf board.now output.old token.old }
+    requires empty_handed { token.old.hand ≡ [] }
+    ensures same { (token.new.board ≡ token.old.board) × (token.new.role ≡ token.old.role) }
+    ensures empty_handed { token.new.hand ≡ [] }
+{
+    let buf = output.pop(board, token)?;
+    Some(send(board, token, buf, 0))
+}
+
+#[test]
+fn one_buffer_goes_the_whole_way_and_meanwhile_a_second_frame_finds_none(rt: HostRuntime) {
+    let (board, mut first) = Board::make(rt.alloc(), &layout(1)).expect(&rt, "memory");
+    let lane = RingId::Lane(FnId(0), 0);
+    let output = RingId::Output(FnId(0));
+    let part = Part::of(&layout(1), PortId(0));
+    let mut receive = board.split(&mut first, 0);
+    let mut transmit = board.split(&mut first, 1);
+    let mut core = board.split(&mut first, 2);
+    let mut tail = Tail::at(&board, lane, 64);
+    let entered = enter(rt.alloc(), &board, &mut receive, &part, &mut tail, 1).expect(
+        &rt, "memory",
+    );
+    assert_eq!(rt; entered, Some(BufId(0)));
+    assert_eq!(rt; part.take(&board, &mut receive, frame(2)), None);
+    let mut head = Head::at(&board, lane, 64);
+    let mut tail = Tail::at(&board, output, 8);
+    assert!(rt; handle(&board, &mut core, &mut head, &mut tail));
+    let mut head = Head::at(&board, output, 8);
+    match leave(&board, &mut transmit, &mut head) {
+        Some(sent) => {
+            assert_eq!(rt; (sent.frame, sent.stamp.nanos), (frame(1), 5));
+            assert_eq!(rt; sent.packet.bytes(), [1, 2, 3].as_slice());
+        }
+        None => assert!(rt; false),
+    }
+    board.join(&mut first, receive);
+    board.join(&mut first, transmit);
+    board.join(&mut first, core);
+    assert_eq!(rt; board.close(first).left(), 0);
 }
 
 // How many of the frames 0 to 65 enter, each with the buffer of its number.
