@@ -1,5 +1,5 @@
 -- What stays remembered is right, and what is put is right.
-use Rattle.std.proofs.Common.{◌≡◌, ◌∙◌, sym, ap, subst, List, Contains, All, Bool, true, ◌⊎◌, inl, inr}
+use Rattle.std.proofs.Common.{◌≡◌, ◌∙◌, sym, subst, List, Contains, Bool, inl, inr}
 use Rattle.std.specs.Map.{lookup}
 use Rattle.std.specs.Prelude.{Option, Some, Result, Ok, Err, OnOk, OnErr}
 use Rattle.std.proofs.lemmas.List.Elements.{All-contains, All-contains_itself}

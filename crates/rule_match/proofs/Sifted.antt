@@ -1,17 +1,15 @@
 -- Rules that can't hold for a frame may be left out.
-use Rattle.std.proofs.Common.{◌≡◌, ◌≢◌, ◌∙◌, sym, ap, subst, ℕ, ◌+◌, ◌<◌, ◌≤◌, ◌==◌, Bool, true, false, cond, ◌&&◌, Option, Some, None, List, [], ◌∷◌, ◌++◌, map, length, take, get_or, inl, inr, refl, arith}
-use Rattle.std.specs.List.{Contains, filter, filter_map, slice_get}
-use Rattle.std.specs.List.Sorted.{IsStrictlyIncreasing}
+use Rattle.std.proofs.Common.{◌≡◌, ◌∙◌, sym, ap, ℕ, ◌==◌, Bool, true, ◌&&◌, Option, Some, None, List, [], ◌∷◌, get_or, inl, inr, refl}
+use Rattle.std.specs.List.{Contains, filter, slice_get}
 use Rattle.std.proofs.lemmas.Bool.{and_parts, cases_Bool, cond-false, cond-true, eqb-true, true≢false}
-use Rattle.std.proofs.lemmas.List.{get_or-map, length-map, map-append, take_more}
-use Rattle.std.proofs.lemmas.List.Elements.{Contains-append_left, Contains-append_right, Contains-get_or, Contains-push}
+use Rattle.std.proofs.lemmas.List.{get_or-map}
+use Rattle.std.proofs.lemmas.List.Elements.{Contains-append_left, Contains-append_right, Contains-push}
 use Rattle.std.proofs.lemmas.Option.{none-some}
-use Rattle.onvm_base.specs.declared.ids.ChainId.{ChainId}
 use Rattle.onvm_base.specs.declared.ids.PortId.{PortId}
 use Rattle.onvm_base.specs.declared.rules.RulePlan.{RulePlan}
 use Rattle.onvm_packet.specs.Holding.{holds_if_asked, is_part}
 use Rattle.onvm_packet.specs.declared.heads.Heads.{Heads}
-use Rattle.rule_match.specs.Parts.{asked_type, can_be_of_port, can_have_type, lists_by_type, AreTypes, ArePartedByPort, ArePartedByType, IsOther, IsPlaceOf}
+use Rattle.rule_match.specs.Parts.{can_be_of_port, can_have_type, ArePartedByPort, ArePartedByType, IsOther, IsPlaceOf}
 use Rattle.rule_match.specs.Rules.{first_chain, rule_holds}
 
 pub Contains-first : {A : Type 0} (x : A) (xs : List A) → Contains (x ∷ xs) x
