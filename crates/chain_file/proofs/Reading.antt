@@ -1,10 +1,9 @@
 -- What a file is read as, it is alone.
-use Rattle.std.proofs.Common.{◌≡◌, ℕ, List, Some, None, refl, sym, ap, ◌∙◌, subst, arith}
-use Rattle.serde_json.specs.Data.{Data}
+use Rattle.std.proofs.Common.{◌≡◌, ℕ, List, sym, ◌∙◌, subst, arith}
 use Rattle.onvm_base.specs.declared.plan.Plan.{Plan}
 use Rattle.chain_file.specs.declared.fault.FileFault.{FileFault}
 use Rattle.chain_file.specs.declared.fault.FileFault.TheVariants.{Memory}
-use Rattle.chain_file.specs.File.{IsFaultOf, IsPlanOf, IsRead, IsRefused, by_memory, by_size, by_text, by_tree, IsSamePlan, chain_list, default_of, function_list, rule_list, sizes_of}
+use Rattle.chain_file.specs.File.{IsFaultOf, IsPlanOf, IsRead, IsRefused, by_memory, by_size, by_text, by_tree, IsSamePlan}
 use Rattle.chain_file.proofs.KeptLists.{no_some, same_some}
 use Rattle.chain_file.proofs.Told.{only_memory}
 

@@ -1,23 +1,22 @@
 -- What is read of an object that was written row by row, and of a list.
-use Rattle.std.proofs.Common.{◌≡◌, ◌≢◌, ℕ, zero, suc, ◌<◌, ◌≤◌, Bool, true, false, not, ◌&&◌, ◌||◌, nat_le, if◌then◌else◌, List, [], ◌∷◌, length, map, take, slice_get, Option, Some, None, option_map, option_and_then, All, IfSome, bytes_eq, Ordering, Less, Equal, Greater, nat_cmp, refl, sym, ap, ◌∙◌, subst, arith}
+use Rattle.std.proofs.Common.{◌≡◌, ℕ, zero, suc, Bool, true, false, not, ◌&&◌, ◌||◌, nat_le, if◌then◌else◌, List, [], ◌∷◌, length, map, take, slice_get, Option, Some, None, option_map, option_and_then, All, IfSome, bytes_eq, Ordering, Less, Equal, Greater, nat_cmp, refl, sym, ap, ◌∙◌, subst, arith}
 use Rattle.std.specs.List.{list_any, list_all}
 use Rattle.std.specs.Ordering.{match_ordering}
 use Rattle.std.specs.Cmp.Lexicographic.{slice_cmp}
 use Rattle.std.proofs.lemmas.Slice.Eq.{bytes_eq-Decides}
-use Rattle.serde_json.specs.Data.{Data, string, array, object, Items, no_items, item, Members, no_members, member, put}
+use Rattle.serde_json.specs.Data.{Data, string, array, item, Members, no_members, member, put}
 use Rattle.serde_json.specs.Events.{items_len}
-use Rattle.serde_json.specs.Find.{get, get_member, as_array, as_object}
+use Rattle.serde_json.specs.Find.{get, get_member, as_array}
 use Rattle.serde_json.specs.View.{items_of}
 use Rattle.serde_json.proofs.Views.{get_member-put, get_member-put_other}
 use Rattle.onvm_base.specs.Plan.{IsFrom, IsName, is_name_character}
 use Rattle.chain_file.specs.declared.fault.Cause.{Cause}
 use Rattle.chain_file.specs.declared.judged.Judged.{Judged}
-use Rattle.chain_file.specs.Causes.{first_of, unless}
 use Rattle.chain_file.specs.File.{cause_at}
 use Rattle.chain_file.specs.Values.{right, must, may, number_in, number, number_or, length_from, list_at, listed, listed_in, under, each, is_name, name_at, are_among, only}
 use Rattle.chain_file.specs.Written.{Row, members_of, member_if, object_of, natural, list}
 use Rattle.chain_file.proofs.Compact.{sorted, sorted_items, sorted_members, IsText, IsPlain, ItemsArePlain, MembersArePlain}
-use Rattle.chain_file.proofs.KeptFunctions.{text_differs, text_is}
+use Rattle.chain_file.proofs.KeptFunctions.{text_differs}
 use Rattle.chain_file.proofs.KeptNames.{both_true}
 use Rattle.chain_file.proofs.Spelled.{is_letter}
 

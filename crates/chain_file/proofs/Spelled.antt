@@ -1,6 +1,6 @@
 -- What a plan's numbers and addresses are spelled as is read as them.
-use Rattle.std.proofs.Common.{◌≡◌, ℕ, zero, suc, ◌+◌, ◌*◌, ◌/◌, ◌%◌, ◌^◌, ◌<◌, ◌≤◌, Bool, true, false, not, ◌&&◌, ◌||◌, nat_eq, nat_le, List, [], ◌∷◌, ◌++◌, length, get_or, Option, Some, None, option_map, option_and_then, decimal, if◌then◌else◌, All, inl, inr, refl, sym, ap, ◌∙◌, subst, arith, append_assoc, length-append}
-use Rattle.std.specs.List.{list_any, list_all, flat_map}
+use Rattle.std.proofs.Common.{◌≡◌, ℕ, zero, suc, ◌+◌, ◌*◌, ◌/◌, ◌%◌, ◌^◌, ◌<◌, ◌≤◌, Bool, true, false, not, ◌&&◌, ◌||◌, nat_eq, nat_le, List, [], ◌∷◌, ◌++◌, length, Option, Some, None, option_map, option_and_then, decimal, if◌then◌else◌, All, inl, inr, refl, ap, ◌∙◌, arith, length-append}
+use Rattle.std.specs.List.{list_any, list_all}
 use Rattle.std.specs.Char.{digit_char}
 use Rattle.std.specs.Int.{w128, to_be_bytes, from_be_bytes, byte_at, bytes_high_first}
 use Rattle.std.specs.Fmt.{digits}
@@ -12,7 +12,7 @@ use Rattle.onvm_base.specs.declared.rules.Prefix.{Prefix}
 use Rattle.onvm_base.specs.declared.rules.Prefix.TheVariants.{V4, V6}
 use Rattle.onvm_base.specs.Plan.{IsPrefix, IsShortPrefix}
 use Rattle.chain_file.specs.Widths.{PrefixFits}
-use Rattle.chain_file.specs.Spelling.{cut, decimal_of, address_of, last_two, last_three, v4_of, v4_with, v6_with, short_prefix_of, byte_of, behind, bytes_of, bytes_as, v6_of, long_prefix_of, else_short, prefix_of, mac_of}
+use Rattle.chain_file.specs.Spelling.{cut, decimal_of, last_two, last_three, v4_of, v4_with, v6_with, short_prefix_of, byte_of, bytes_of, v6_of, long_prefix_of, else_short, prefix_of, mac_of}
 use Rattle.chain_file.specs.Written.{number_to, v4_text, hex_digits, hex_text, prefix_text}
 use Rattle.chain_file.proofs.KeptNames.{both_true, at_most}
 

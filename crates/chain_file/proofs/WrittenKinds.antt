@@ -1,8 +1,6 @@
 -- Written kinds and functions are read back.
-use Rattle.std.proofs.Common.{◌≡◌, ◌≢◌, ℕ, zero, suc, ◌-◌, ◌^◌, ◌<◌, ◌≤◌, Bool, true, false, ◌&&◌, ◌||◌, nat_eq, nat_le, List, [], ◌∷◌, length, map, codes, bytes_eq, Option, Some, None, option_map, option_and_then, All, IfSome, if◌then◌else◌, refl, sym, ap, ◌∙◌, subst, arith}
-use Rattle.std.specs.List.{list_any}
-use Rattle.std.specs.Prelude.{⊤}
-use Rattle.serde_json.specs.Data.{Data, string, array, item, no_items, Members, no_members}
+use Rattle.std.proofs.Common.{◌≡◌, ℕ, ◌-◌, ◌^◌, ◌<◌, ◌≤◌, true, List, [], ◌∷◌, length, map, codes, Option, Some, None, option_map, option_and_then, All, refl, ap, ◌∙◌, arith}
+use Rattle.serde_json.specs.Data.{Data, string}
 use Rattle.serde_json.specs.Find.{get, as_str}
 use Rattle.onvm_base.specs.declared.limits.TheConstants.{MAX_COST, MAX_DEPTH, MAX_PRIORITY, MAX_RATE, MAX_ROUTES, MAX_SERVICES, MAX_TAG_PRIORITY, MAX_TESTS, MAX_VLAN, MAX_WEIGHT}
 use Rattle.onvm_base.specs.declared.rules.Prefix.{Prefix}
@@ -12,17 +10,15 @@ use Rattle.onvm_base.specs.declared.function.RouteEntry.{RouteEntry}
 use Rattle.onvm_base.specs.declared.function.Kind.{Kind}
 use Rattle.onvm_base.specs.declared.function.Kind.TheVariants as kind
 use Rattle.onvm_base.specs.declared.function.FunctionPlan.{FunctionPlan}
-use Rattle.onvm_base.specs.declared.rules.Tests.{Tests}
-use Rattle.onvm_base.specs.Plan.{AreTests, IsFrom, IsFunction, IsKind, IsName, IsShortPrefix}
+use Rattle.onvm_base.specs.Plan.{AreTests, IsFrom, IsFunction, IsKind, IsShortPrefix}
 use Rattle.chain_file.specs.declared.fault.Cause.{Cause}
-use Rattle.chain_file.specs.declared.fault.Cause.TheVariants.{Shape, Unknown}
 use Rattle.chain_file.specs.declared.judged.Judged.{Judged}
 use Rattle.chain_file.specs.declared.kinds.Word.{Word}
 use Rattle.chain_file.specs.declared.kinds.Word.TheVariants as word
-use Rattle.chain_file.specs.Causes.{unless, earlier, first_of}
+use Rattle.chain_file.specs.Causes.{earlier}
 use Rattle.chain_file.specs.Functions.{function_in, word_in}
 use Rattle.chain_file.specs.Guests.{HasGuest}
-use Rattle.chain_file.specs.Kinds.{short_prefix_at, address_at, mac_at, spelled_or, nowhere, entry_in, entry_to, entry_out, either, entry_target, kind_in, keys_cause, guest_from, guest_in, filter_in, route_in, balance_in, nat_in}
+use Rattle.chain_file.specs.Kinds.{short_prefix_at, address_at, mac_at, spelled_or, nowhere, entry_in, entry_to, entry_out, either, entry_target, kind_in, keys_cause, guest_from, nat_in}
 use Rattle.chain_file.specs.Matches.{tests_in, range_in}
 use Rattle.chain_file.specs.Spelling.{short_prefix_of, v4_of, mac_of}
 use Rattle.chain_file.specs.Values.{right, must, number, number_or, number_in, of_one, list_of, list_at, each, kept, under, name_at, only, of_two}
@@ -30,9 +26,9 @@ use Rattle.chain_file.specs.Widths.{TestsFit, EntryFits, KindFits, TargetFits, P
 use Rattle.chain_file.specs.Words.{function_keys, own_keys, word_of}
 use Rattle.chain_file.specs.Written.{Row, row, natural, natural_row, list, range, prefix, prefix_text, v4_text, hex_text, object_of, members_of, step_row, tests, entry, own_rows, function_rows, function}
 use Rattle.chain_file.specs.Written as written
-use Rattle.chain_file.proofs.Compact.{sorted, IsPlain, IsText, ItemsArePlain, MembersArePlain}
-use Rattle.chain_file.proofs.Rows.{get_of, only_right, are_known, are_distinct, value_at, number_in_right, number_right, number_or_right, name_at_right, name_text, sorted-mapped, under_is, list_at_is, each_right, items_plain, item_of}
-use Rattle.chain_file.proofs.Spelled.{short_of-prefix_text, prefix_spelled, v4_of-v4_text, v4_spelled, mac_of-hex_text, hex_spelled}
+use Rattle.chain_file.proofs.Compact.{sorted, IsPlain, IsText, MembersArePlain}
+use Rattle.chain_file.proofs.Rows.{get_of, only_right, are_known, are_distinct, value_at, number_in_right, number_right, number_or_right, name_at_right, name_text, sorted-mapped, under_is, list_at_is, each_right, items_plain}
+use Rattle.chain_file.proofs.Spelled.{short_of-prefix_text, v4_of-v4_text, v4_spelled, mac_of-hex_text, hex_spelled}
 use Rattle.chain_file.proofs.WrittenTests.{tests_back, tests_plain, range_in_right, range_plain, prefix_plain}
 
 -- ---- spellings

@@ -1,10 +1,10 @@
 -- Written chains, rules and plans are read back.
-use Rattle.std.proofs.Common.{◌≡◌, ◌≢◌, ℕ, zero, suc, ◌+◌, ◌-◌, ◌/◌, ◌^◌, ◌<◌, ◌≤◌, Bool, true, false, not, ◌&&◌, ◌||◌, nat_eq, nat_le, nat_lt, max, List, [], ◌∷◌, length, map, take, slice_get, codes, bytes_eq, Option, Some, None, is_some, option_map, option_and_then, All, IfSome, if◌then◌else◌, refl, sym, ap, ◌∙◌, subst, arith}
+use Rattle.std.proofs.Common.{◌≡◌, ◌≢◌, ℕ, zero, suc, ◌+◌, ◌-◌, ◌<◌, ◌≤◌, Bool, true, false, nat_eq, nat_le, List, [], ◌∷◌, length, map, take, slice_get, codes, bytes_eq, Option, Some, None, option_map, option_and_then, All, refl, sym, ap, ◌∙◌, subst, arith}
 use Rattle.std.specs.List.{list_any}
 use Rattle.std.specs.Prelude.{unwrap_or}
-use Rattle.serde_json.specs.Data.{Data, string, array}
-use Rattle.serde_json.specs.Find.{get, as_str, as_number, as_u64, as_i64}
-use Rattle.onvm_base.specs.declared.limits.TheConstants.{MAX_CHAIN_STEPS, MAX_CHAINS, MAX_FUNCTIONS, MAX_RULES, MAX_AGE, MAX_BUFFERS, MAX_BURST, MAX_CORES, MAX_PORTS, MAX_RING, MAX_TICK, MAX_TRANSMIT_ROLES, MAX_WINDOW, MIN_RING, MIN_TICK}
+use Rattle.serde_json.specs.Data.{Data, string}
+use Rattle.serde_json.specs.Find.{get, as_str}
+use Rattle.onvm_base.specs.declared.limits.TheConstants.{MAX_CHAIN_STEPS}
 use Rattle.onvm_base.specs.declared.ids.ChainId.{ChainId}
 use Rattle.onvm_base.specs.declared.chain.ChainStep.{ChainStep}
 use Rattle.onvm_base.specs.declared.chain.ChainStep.TheVariants as step
@@ -13,26 +13,22 @@ use Rattle.onvm_base.specs.declared.function.Kind.{Kind}
 use Rattle.onvm_base.specs.declared.function.Kind.TheVariants as kind
 use Rattle.onvm_base.specs.declared.function.FunctionPlan.{FunctionPlan}
 use Rattle.onvm_base.specs.declared.rules.RulePlan.{RulePlan}
-use Rattle.onvm_base.specs.declared.rules.Tests.{Tests}
-use Rattle.onvm_base.specs.Plan.{AreDifferent, AreTests, IsChainPlan, IsFrom, IsFunction, IsName, IsRule, IsStep}
-use Rattle.onvm_base.specs.Services.{instances, instances_from}
-use Rattle.chain_file.specs.declared.fault.Cause.{Cause}
-use Rattle.chain_file.specs.declared.fault.Cause.TheVariants.{Shape, Unknown, Twice, Marks, Limit}
+use Rattle.onvm_base.specs.Plan.{AreDifferent, IsChainPlan, IsFunction, IsName, IsRule, IsStep}
+use Rattle.onvm_base.specs.Services.{instances_from}
 use Rattle.chain_file.specs.declared.judged.Judged.{Judged}
-use Rattle.chain_file.specs.Causes.{unless, earlier, first_of}
-use Rattle.chain_file.specs.Chains.{place_of, has_service, to_number, to_from, step_to, step_out, step_target, step_in, chain_name, chain_cause, chain_of}
+use Rattle.chain_file.specs.Chains.{place_of, has_service, to_number, step_to, step_out, step_target, step_in, chain_name, chain_cause, chain_of}
 use Rattle.chain_file.specs.File.{functions_of, function_cause_at, function_cause_in, chains_of, chain_cause_at, chain_cause_in, step_cause_at, steps_cause_at, rules_of, rule_cause_at}
 use Rattle.chain_file.specs.Functions.{function_in, function_cause, is_twice, is_like, has_guest_of, is_guest}
 use Rattle.chain_file.specs.Guests.{HasGuest}
 use Rattle.chain_file.specs.Kinds.{either}
 use Rattle.chain_file.specs.Matches.{tests_in}
-use Rattle.chain_file.specs.Rules.{chain_at, chain_named, chain_of_name, chain_at_place, rule_in, no_tests}
-use Rattle.chain_file.specs.Values.{right, must, of_one, number_in, name_at, is_name, list_at, under, only}
+use Rattle.chain_file.specs.Rules.{chain_at, chain_named, rule_in, no_tests}
+use Rattle.chain_file.specs.Values.{right, must, of_one, is_name, list_at, under, only}
 use Rattle.chain_file.specs.Widths.{KindFits, TestsFit}
-use Rattle.chain_file.specs.Written.{row, natural, list, object_of, step_row, one_step, chain_rows, chain, name_of_chain, rule_rows, rule, tests, function}
-use Rattle.chain_file.proofs.Compact.{sorted, IsPlain, IsText, MembersArePlain}
+use Rattle.chain_file.specs.Written.{natural, step_row, one_step, chain_rows, chain, name_of_chain, rule_rows, rule, tests, function}
+use Rattle.chain_file.proofs.Compact.{sorted, IsPlain, IsText}
 use Rattle.chain_file.proofs.KeptFunctions.{text_is}
-use Rattle.chain_file.proofs.KeptLists.{no_some, same_some, slice_get-take, slice_get_item}
+use Rattle.chain_file.proofs.KeptLists.{no_some, same_some, slice_get_item}
 use Rattle.chain_file.proofs.Rows.{get_of, only_right, number_in_right, name_at_right, name_is, name_text, sorted-mapped, under_is, list_at_is, items_plain, item_of, values_back, values_back_to, each_place, no_cause_at}
 use Rattle.chain_file.proofs.WrittenKinds.{function_back}
 use Rattle.chain_file.proofs.WrittenTests.{tests_back, tests_plain}

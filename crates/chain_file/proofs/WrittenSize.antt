@@ -1,11 +1,10 @@
 -- No written plan is too large for a chain file.
-use Rattle.std.proofs.Common.{◌≡◌, ◌≢◌, ℕ, zero, suc, ◌+◌, ◌*◌, ◌^◌, ◌<◌, ◌≤◌, Bool, true, false, List, [], ◌∷◌, ◌++◌, length, map, codes, decimal, Option, Some, None, option_map, All, IfSome, refl, sym, ap, ◌∙◌, subst, arith, length-append}
-use Rattle.std.specs.Prelude.{⊤}
+use Rattle.std.proofs.Common.{◌≡◌, ℕ, zero, suc, ◌+◌, ◌^◌, ◌<◌, ◌≤◌, Bool, true, false, List, [], ◌∷◌, ◌++◌, length, map, codes, decimal, Option, Some, None, option_map, All, IfSome, refl, ap, arith, length-append}
 use Rattle.std.specs.List.{list_all}
 use Rattle.std.proofs.lemmas.Fmt.{length-decimal-le}
-use Rattle.json.specs.Print.{escape, escape_byte, quoted}
+use Rattle.json.specs.Print.{escape, quoted}
 use Rattle.json.proofs.Printed.Strings.{escape_byte_plain}
-use Rattle.serde_json.specs.Data.{Data, string, array, object, Members, no_members, member}
+use Rattle.serde_json.specs.Data.{Data, string, object, Members, no_members}
 use Rattle.serde_json.specs.View.{items_of}
 use Rattle.serde_json.specs.Written.{comma_if, compact_text, items_text, members_text}
 use Rattle.onvm_base.specs.declared.limits.TheConstants.{MAX_CHAIN_FILE_BYTES, MAX_CHAINS, MAX_CHAIN_STEPS, MAX_FUNCTIONS, MAX_ROUTES, MAX_RULES, MAX_SERVICES, MAX_TESTS}
@@ -27,7 +26,7 @@ use Rattle.chain_file.specs.Written as written
 use Rattle.chain_file.proofs.Compact.{IsText}
 use Rattle.chain_file.proofs.KeptNames.{both_true}
 use Rattle.chain_file.proofs.Rows.{name_text}
-use Rattle.chain_file.proofs.Spelled.{IsSpelling, hex_spelled, is_letter, prefix_spelled, v4_spelled}
+use Rattle.chain_file.proofs.Spelled.{hex_spelled, is_letter, prefix_spelled, v4_spelled}
 use Rattle.chain_file.proofs.WrittenPlan.{AreNamed, chain_name_is, small_service, offers}
 use Rattle.chain_file.proofs.WrittenTop.{named}
 

@@ -1,21 +1,17 @@
 -- Written tests and steps are read back.
-use Rattle.std.proofs.Common.{◌≡◌, ◌≢◌, ℕ, zero, suc, ◌-◌, ◌^◌, ◌<◌, ◌≤◌, Bool, true, false, ◌&&◌, ◌||◌, nat_eq, nat_le, List, [], ◌∷◌, map, codes, Option, Some, None, option_map, IfSome, int_le, pos, if◌then◌else◌, refl, sym, ap, ◌∙◌, subst, arith}
-use Rattle.std.specs.Prelude.{⊤}
-use Rattle.serde_json.specs.Data.{Data, string, array, item, no_items, Members, no_members}
+use Rattle.std.proofs.Common.{◌≡◌, ℕ, suc, ◌-◌, ◌^◌, ◌<◌, ◌≤◌, true, List, [], codes, Option, Some, None, option_map, IfSome, int_le, pos, refl, ap, ◌∙◌, arith}
+use Rattle.serde_json.specs.Data.{Data, no_members}
 use Rattle.serde_json.specs.Find.{get}
 use Rattle.onvm_base.specs.declared.limits.TheConstants.{MAX_PORTS, MAX_VLAN}
 use Rattle.onvm_base.specs.declared.rules.Prefix.{Prefix}
 use Rattle.onvm_base.specs.declared.rules.Tests.{Tests}
-use Rattle.onvm_base.specs.Plan.{AreTests, IsFrom, IsPrefix}
-use Rattle.chain_file.specs.declared.fault.Cause.TheVariants.{Shape}
-use Rattle.chain_file.specs.Causes.{unless}
+use Rattle.onvm_base.specs.Plan.{AreTests, IsPrefix}
 use Rattle.chain_file.specs.Matches.{tests_in, test, test_keys, port_test, prefix_at, range_in, can, some as there}
-use Rattle.chain_file.specs.Spelling.{prefix_of}
 use Rattle.chain_file.specs.Values.{right, number_in, only}
 use Rattle.chain_file.specs.Widths.{TestsFit, PrefixFits}
-use Rattle.chain_file.specs.Written.{Row, member_if, members_of, object_of, natural, range, prefix, prefix_text, tests, test_rows}
-use Rattle.chain_file.proofs.Compact.{sorted, IsPlain, MembersArePlain}
-use Rattle.chain_file.proofs.Rows.{get_of, only_right, are_known, are_distinct, value_at, number_in_right, row_plain}
+use Rattle.chain_file.specs.Written.{natural, range, prefix, tests, test_rows}
+use Rattle.chain_file.proofs.Compact.{sorted, IsPlain}
+use Rattle.chain_file.proofs.Rows.{get_of, only_right, number_in_right, row_plain}
 use Rattle.chain_file.proofs.Spelled.{prefix_of-prefix_text, prefix_spelled}
 
 -- ---- ranges

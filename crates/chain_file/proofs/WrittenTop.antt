@@ -1,32 +1,26 @@
 -- A written plan is read back.
-use Rattle.std.proofs.Common.{◌≡◌, ℕ, ◌+◌, ◌-◌, ◌/◌, ◌^◌, ◌<◌, ◌≤◌, true, ◌&&◌, nat_le, nat_lt, max, List, [], ◌∷◌, length, map, codes, Option, Some, None, option_map, All, refl, sym, ap, ◌∙◌, subst, arith}
-use Rattle.serde_json.specs.Data.{Data, string}
+use Rattle.std.proofs.Common.{◌≡◌, ℕ, ◌-◌, ◌/◌, ◌<◌, ◌≤◌, true, nat_le, nat_lt, max, List, [], ◌∷◌, length, map, codes, Option, Some, None, option_map, refl, sym, ap, ◌∙◌, arith}
+use Rattle.serde_json.specs.Data.{Data}
 use Rattle.serde_json.specs.Find.{get}
 use Rattle.onvm_base.specs.declared.limits.TheConstants.{MAX_AGE, MAX_BUFFERS, MAX_BURST, MAX_CHAINS, MAX_CORES, MAX_FUNCTIONS, MAX_PORTS, MAX_RING, MAX_RULES, MAX_TICK, MAX_TRANSMIT_ROLES, MAX_WINDOW, MIN_RING, MIN_TICK}
-use Rattle.onvm_base.specs.declared.chain.ChainPlan.{ChainPlan}
-use Rattle.onvm_base.specs.declared.function.FunctionPlan.{FunctionPlan}
-use Rattle.onvm_base.specs.declared.ids.ChainId.{ChainId}
 use Rattle.onvm_base.specs.declared.plan.Plan.{Plan}
 use Rattle.onvm_base.specs.declared.rules.RulePlan.{RulePlan}
-use Rattle.onvm_base.specs.Plan.{AreSizes, IsFrom, IsChainPlan, IsFunction, IsRule}
 use Rattle.chain_file.specs.declared.fault.Cause.{Cause}
-use Rattle.chain_file.specs.declared.fault.Cause.TheVariants.{Limit, Marks}
 use Rattle.chain_file.specs.declared.judged.Judged.{Judged}
 use Rattle.chain_file.specs.declared.top.Sizes.{Sizes}
 use Rattle.chain_file.specs.declared.top.Roles.{Roles}
 use Rattle.chain_file.specs.declared.top.Rings.{Rings}
 use Rattle.chain_file.specs.declared.top.Times.{Times}
-use Rattle.chain_file.specs.Causes.{first_of, unless}
-use Rattle.chain_file.specs.File.{ChainsAreRight, FunctionsAreRight, IsPlanOf, IsTree, RulesAreRight, TopIsRight, chain_list, default_of, function_list, functions_of, chains_of, rules_of, function_cause_at, chain_cause_at, steps_cause_at, rule_cause_at, numbers_of, rule_list, sizes_of}
-use Rattle.chain_file.specs.Guests.{HasGuest, HaveGuests}
+use Rattle.chain_file.specs.Causes.{first_of}
+use Rattle.chain_file.specs.File.{IsPlanOf, chain_list, default_of, function_list, functions_of, chains_of, rules_of, function_cause_at, chain_cause_at, steps_cause_at, rule_cause_at, numbers_of, sizes_of}
+use Rattle.chain_file.specs.Guests.{HaveGuests}
 use Rattle.chain_file.specs.Rules.{chain_at}
 use Rattle.chain_file.specs.Top.{top_keys, roles_in, ring_in, high_in, low_in, rings_in, times_in, list_or_none, lists_cause, top_in}
-use Rattle.chain_file.specs.Values.{right, number, number_or, list_in, list_at, name_at, only, under}
-use Rattle.chain_file.specs.Widths.{PlanFits, KindFits, TestsFit}
-use Rattle.chain_file.specs.Written.{plan_rows, form, written, function, chain, rule, list, natural, name_of_chain}
-use Rattle.chain_file.proofs.Compact.{sorted, IsPlain, text_is_tree}
-use Rattle.chain_file.proofs.Rows.{get_of, value_at, only_right, number_right, number_or_right, name_at_right, name_is, sorted-mapped, under_is, list_at_is, items_plain, item_of}
-use Rattle.chain_file.proofs.Sizing.{plan_sizes}
+use Rattle.chain_file.specs.Values.{right, number, number_or, list_at, name_at, only, under}
+use Rattle.chain_file.specs.Widths.{PlanFits}
+use Rattle.chain_file.specs.Written.{plan_rows, form, function, chain, rule, list, name_of_chain}
+use Rattle.chain_file.proofs.Compact.{sorted, IsPlain}
+use Rattle.chain_file.proofs.Rows.{get_of, value_at, only_right, number_right, number_or_right, name_at_right, sorted-mapped, under_is, list_at_is, items_plain}
 use Rattle.chain_file.proofs.WrittenKinds.{function_plain}
 use Rattle.chain_file.proofs.WrittenPlan.{AreWritten, functions_back, functions_right_back, AreChains, chains_back, chains_right_back, steps_right_back, AreNamed, chain_at_back, chain_name_is, chain_name_plain, AreRules, rules_back, rules_right_back, chain_plain, rule_plain}
 
