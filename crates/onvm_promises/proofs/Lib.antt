@@ -7,6 +7,7 @@ pub mod Keeping
 pub mod Moving
 pub mod OneFrame
 pub mod Pacing
+pub mod SendPromise
 pub mod Settling
 pub mod ShareVectors
 pub mod Stretches

@@ -1,5 +1,5 @@
 -- The passes of one frame on its way are whole: it is received, handled and sampled, moved, and the sample is taken.
-use Rattle.std.proofs.Common.{◌≡◌, ℕ, zero, suc, ◌+◌, ◌^◌, ◌<◌, ◌≤◌, Bool, true, false, inl, inr, [], ◌∷◌, refl, ap, subst, arith, None}
+use Rattle.std.proofs.Common.{◌≡◌, ℕ, ◌+◌, ◌^◌, ◌<◌, ◌≤◌, Bool, true, false, inl, inr, [], ◌∷◌, refl, ap, subst, arith, None}
 use Rattle.std.specs.Prelude.{◌==◌, if◌then◌else◌}
 use Rattle.onvm_base.specs.declared.ids.FnId.{FnId}
 use Rattle.onvm_base.specs.declared.ids.RingId.TheVariants.{Lane, Output, Mail}
@@ -16,7 +16,7 @@ use Rattle.onvm_core.proofs.Marked.{no_bit}
 use Rattle.onvm_core.proofs.Walk.{f, buf, entered, handled, walk}
 use Rattle.onvm_core.proofs.WalkLogs.{setting, walk_follows}
 use Rattle.onvm_promises.specs.Kept.{samples_by, kept_now}
-use Rattle.onvm_promises.specs.Passes.{IsReceivePass, IsSendPass, IsCorePass, IsTickPass, IsServed, HasOneSample, IsDrained, is_pop_of}
+use Rattle.onvm_promises.specs.Passes.{IsReceivePass, IsSendPass, IsCorePass, IsTickPass, IsServed, HasOneSample, IsDrained}
 use Rattle.onvm_promises.specs.Passes.EndsWithEmpties.{NoEmpty, OneEmpty}
 use Rattle.onvm_promises.specs.Rests.{IsSettledFeeder}
 use Rattle.onvm_promises.specs.Acts.IsBlockStep.{AnAsk, ASeek, ATake, APush}
@@ -131,7 +131,17 @@ moved_settled aged = record {
   paid = inl no_bit;
   paced = (
     ((λ known. absurd (omega (arith, known))), λ g. few (0 == g)),
-    (((λ known. absurd (omega (arith, known))), λ g. few (0 == g)), (((λ known. absurd (omega (arith, known))), λ g. few (0 == g)), tt)),
+    (
+      ((λ known. absurd (omega (arith, known))), λ g. few (0 == g)),
+      (
+        (
+          (λ known. absurd (omega
+              (arith, known))),
+          λ g. few (0 == g),
+        ),
+        tt,
+      ),
+    ),
   );
 }
 
@@ -164,7 +174,8 @@ taken_is : IsTickPass setting 3 [] (Empty (Mail f) ∷ Pop (Mail f) (Number (2 ^
 taken_is = record {
   blocks = (omega arith, (omega arith, tt));
   drained = λ g known.
-      subst (λ (h : FnId). IsDrained (Mail h) 64 (Empty (Mail f) ∷ Pop (Mail f) (Number (2 ^ 40 + 100)) ∷ [])) (only g known)
+      subst (λ (h : FnId). IsDrained (Mail h) 64 (Empty (Mail f) ∷ Pop (Mail f) (Number (2 ^ 40 + 100)) ∷ []))
+      (only g known)
       (record { bounded = omega arith; fewer = λ less. refl });
 }
 

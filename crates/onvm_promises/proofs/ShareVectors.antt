@@ -1,8 +1,6 @@
 -- Windows, shares and lines of ticks that were worked out by hand.
-use Rattle.std.proofs.Common.{◌≡◌, ℕ, List, [], ◌∷◌, refl, Option, Some, None}
-use Rattle.std.specs.Prelude.{slice_get}
+use Rattle.std.proofs.Common.{◌≡◌, ℕ, List, [], ◌∷◌, refl, Some, None}
 use Rattle.load_estimate.specs.declared.sample.Sample.{Sample}
-use Rattle.load_estimate.specs.declared.tick.Share.{Share}
 use Rattle.load_estimate.specs.declared.tick.Tick.{Tick}
 use Rattle.load_estimate.specs.Windows.{arrivals_of, median_of}
 use Rattle.onvm_core.proofs.Plans.{narrow}
