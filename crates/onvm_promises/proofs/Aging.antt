@@ -1,18 +1,12 @@
 -- Whether a reading was old enough: the answers stay as the log grows.
-use Rattle.std.proofs.Common.{◌≡◌, ℕ, ◌+◌, ◌-◌, ◌<◌, ◌≤◌, Bool, true, false, if◌then◌else◌, inl, inr, List, [], ◌∷◌, ◌++◌, length, refl, sym, ◌∙◌, ap, subst, arith}
-use Rattle.std.specs.Prelude.{◌==◌, ◌&&◌, ◌||◌, nat_le}
+use Rattle.std.proofs.Common.{◌≡◌, ℕ, ◌+◌, ◌-◌, ◌<◌, Bool, true, if◌then◌else◌, inl, inr, [], ◌∷◌, ◌++◌, length, refl, sym, ◌∙◌, ap, arith}
+use Rattle.std.specs.Prelude.{◌==◌, ◌&&◌, nat_le}
 use Rattle.std.proofs.lemmas.Bool.{cases_Bool, and_from, and_left, eqb-true, eqb-false, eq-eqb, ne_eqb, le-leb, both_ways}
 use Rattle.onvm_base.specs.declared.ids.RingId.{RingId}
 use Rattle.onvm_base.specs.declared.ids.RingId.TheVariants.{Lane}
-use Rattle.onvm_base.specs.declared.limits.TheConstants.{LAST_POST}
-use Rattle.onvm_core.specs.declared.layout.Word.TheVariants.{Cell}
-use Rattle.onvm_core.specs.declared.step.Act.{Act}
-use Rattle.onvm_core.specs.declared.step.Act.TheVariants.{Look, Post}
 use Rattle.onvm_core.specs.Logs.{Setting, Log, push_count}
 use Rattle.onvm_core.specs.Handling.{is_push_on}
-use Rattle.onvm_core.specs.Marks.{Ages, AreMarked, IsOwed, IsPaid, IsSettled, MarkEvents, MarkLook, MarkPhase, MayMark, Pass, events_in, finds, is_throttled, looks_of_pass, mark_after, mark_after_look, mark_events, mark_phase, pass_count, posts_so_far}
-use Rattle.onvm_core.specs.Marks.MarkEvent.{Passed, Posted}
-use Rattle.onvm_core.specs.Marks.MarkPhase.{AtRest, InPass}
+use Rattle.onvm_core.specs.Marks.{Ages, AreMarked, mark_events}
 use Rattle.onvm_core.proofs.Lists.{if_met, if_unmet}
 use Rattle.onvm_core.proofs.Agreeing.{Agree, marked_same, paid_same, passes_by, passes_grow}
 use Rattle.onvm_promises.specs.Times.{aged_by, passes_in, push_moment, reading_time}

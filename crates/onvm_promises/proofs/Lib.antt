@@ -14,6 +14,7 @@ pub mod Following
 pub mod Keeping
 pub mod Moving
 pub mod Pacing
+pub mod SendPromise
 pub mod Settling
 pub mod Stretches
 pub mod Ticking

@@ -3,7 +3,6 @@ use Rattle.std.proofs.Common.{◌≡◌, ℕ, ◌+◌, Bool, true, false, inl, i
 use Rattle.std.specs.Prelude.{◌==◌, ◌&&◌, nat_le, if◌then◌else◌}
 use Rattle.std.proofs.lemmas.Bool.{ne_eqb}
 use Rattle.std.proofs.lemmas.Bool.Decides.{eqb_tells}
-use Rattle.onvm_core.specs.declared.step.Act.{Act}
 use Rattle.onvm_core.specs.Logs.{Log, Setting}
 use Rattle.onvm_core.specs.Marks.{Ages, AreMarked, IsPaid, IsResting, MarkPhase, events_in, mark_phase, pass_count}
 use Rattle.onvm_promises.specs.Rests.{IsSettledFeeder}
@@ -39,7 +38,8 @@ and_false false = refl
 
 never_both : (n pass : ℕ) → ((n == pass) && (n == pass + 1)) ≡ false
 never_both n pass = elim (eqb_tells n pass) [
-  | inl met ↦ let no : (n == pass + 1) ≡ false = ne_eqb n (pass + 1) (λ e. let same = met.1 in omega (arith, e, same)) in
+  | inl met ↦ let no : (n == pass + 1) ≡ false = ne_eqb n (pass + 1) (λ e. let same = met.1 in omega
+      (arith, e, same)) in
       ap (λ b. (n == pass) && b) no ∙ and_false (n == pass)
   | inr unmet ↦ ap (λ b. b && (n == pass + 1)) unmet.0
 ]

@@ -1,7 +1,7 @@
 -- The ticks of a session, from pass to pass.
-use Rattle.std.proofs.Common.{◌≡◌, ℕ, suc, ◌+◌, ◌-◌, ◌<◌, ◌≤◌, Bool, true, false, if◌then◌else◌, inl, inr, List, [], ◌∷◌, ◌++◌, length, take, refl, sym, ◌∙◌, ap, subst, arith, append_assoc, length-append}
-use Rattle.std.specs.Prelude.{◌&&◌, ◌||◌, nat_lt, nat_le, slice_get}
-use Rattle.std.proofs.lemmas.Bool.{cases_Bool, and_parts, or_cases, leb-true, both_ways}
+use Rattle.std.proofs.Common.{◌≡◌, ℕ, ◌+◌, ◌-◌, ◌≤◌, true, false, inl, inr, List, [], ◌∷◌, ◌++◌, length, take, refl, sym, ◌∙◌, ap, subst, arith, append_assoc, length-append}
+use Rattle.std.specs.Prelude.{nat_lt, nat_le}
+use Rattle.std.proofs.lemmas.Bool.{cases_Bool, and_parts, leb-true}
 use Rattle.std.proofs.lemmas.List.{append-nil, take-append-le}
 use Rattle.onvm_base.specs.declared.ids.FnId.{FnId}
 use Rattle.onvm_base.specs.declared.plan.Plan.{Plan}
@@ -121,7 +121,8 @@ weights_append f (u ∷ us) more =
     ap (λ (ws : List ℕ). weight_posted (share_at u f) ++ ws) (weights_append f us more)
     ∙ sym (append_assoc (weight_posted (share_at u f)) (weights_posted f us) (weights_posted f more))
 
-weights_added : (f : FnId) (added before : Log) → weights_in f (added ++ before) ≡ weights_in f before ++ weights_in f added
+weights_added : (f : FnId) (added before : Log) → weights_in f (added ++ before) ≡ weights_in f before
+    ++ weights_in f added
 weights_added f [] before = sym (append-nil (weights_in f before))
 weights_added f (act ∷ added) before =
     ap (λ (ws : List ℕ). ws ++ weight_posts f act) (weights_added f added before)
@@ -202,7 +203,8 @@ ticks_closed plan functions first now samples more ticks added before later so_f
     }
 
 -- a pass that was cut short
-pub ticks_stay : (plan : Plan) (functions first : ℕ) (samples more : List Sample) (ticks : List Tick) (added before : Log)
+pub ticks_stay : (plan : Plan) (functions first : ℕ) (samples more : List Sample) (ticks : List Tick)
+    (added before : Log)
     → AreTicksSoFar plan functions first samples ticks before → PostsWeights functions [] added
     → AreTicksSoFar plan functions first (samples ++ more) ticks (added ++ before)
 ticks_stay plan functions first samples more ticks added before so_far posts =

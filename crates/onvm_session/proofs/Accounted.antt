@@ -1,5 +1,5 @@
 -- A session that has ended is accounted for: what its roles' logs and the closed board say makes up the headline.
-use Rattle.std.proofs.Common.{◌≡◌, ℕ, zero, suc, ◌+◌, ◌*◌, ◌<◌, ◌≤◌, Bool, true, false, inl, inr, List, [], ◌∷◌, ◌++◌, length, refl, sym, ◌∙◌, ap, subst, arith, length-append, Option, Some, None}
+use Rattle.std.proofs.Common.{◌≡◌, ℕ, zero, suc, ◌+◌, ◌*◌, ◌<◌, ◌≤◌, Bool, true, false, inl, inr, List, [], ◌∷◌, ◌++◌, length, refl, sym, ◌∙◌, ap, subst, arith, Some}
 use Rattle.std.specs.Prelude.{◌==◌, ◌/◌, ◌^◌, not}
 use Rattle.std.proofs.lemmas.Bool.{cases_Bool, cases_order, ne_eqb, both_ways}
 use Rattle.onvm_base.specs.declared.frame.SentFrame.{SentFrame}
@@ -28,18 +28,15 @@ use Rattle.onvm_core.proofs.Short.{few_frames, traced_by_few}
 use Rattle.onvm_core.proofs.Sums.{sum_extend, sum_same}
 use Rattle.onvm_core.proofs.Throttling.{earned_throttle}
 use Rattle.onvm_core.proofs.Told.{foreign_log, gathered_is, no_log_behind, own_log, records_gathered, sent_gathered}
-use Rattle.onvm_core.proofs.Traces.{each_traced}
 use Rattle.onvm_core.specs.Blocks.{IsOfBlocks, AllOfBlocks}
-use Rattle.onvm_core.specs.Frames.{AllEnded, AllInPool}
+use Rattle.onvm_core.specs.Frames.{AllInPool}
 use Rattle.onvm_core.specs.History.{History, content_of, place_of}
-use Rattle.onvm_core.specs.Journals.{Handling, HasShortJournals, GoesThrough, journal, handlings}
+use Rattle.onvm_core.specs.Journals.{Handling, GoesThrough, journal}
 use Rattle.onvm_core.specs.Lawful.{AllowsAct, IsLawful}
 use Rattle.onvm_core.specs.Layouts.{IsLayout, IsFeeder, core_role, first_role, tick_role, ring_size}
-use Rattle.onvm_core.specs.Logs.{Setting, Log, IsNumbered, log_of, entries_of_port}
+use Rattle.onvm_core.specs.Logs.{Setting, Log, IsNumbered, log_of}
 use Rattle.onvm_core.specs.Marks.{Ages, AreMarked, AllMarked, mark_events}
 use Rattle.onvm_core.specs.Places.{StandsOnce, numbers_below, how_many, one_if}
-use Rattle.onvm_core.specs.Potential.{sum_below}
-use Rattle.onvm_core.specs.Receiving.{receive_phase}
 use Rattle.onvm_core.specs.Records.{gathered, gathered_of_log, records_of_act, records_in, sent_frames_in, sent_frames_of_act}
 use Rattle.onvm_core.specs.Settings.{HasFewFrames, IsSetting, frame_count}
 use Rattle.onvm_core.specs.Words.{is_pool}
@@ -47,8 +44,9 @@ use Rattle.onvm_promises.proofs.Aging.{aged_at_once}
 use Rattle.onvm_promises.specs.Kept.{kept_at, records_by, sent_by}
 use Rattle.onvm_promises.specs.Passes.{IsDrained, IsTickPass}
 use Rattle.onvm_promises.specs.Stretches.{log_until, stretch}
-use Rattle.onvm_session.proofs.Closing.{NoneSplit, turns_none, phases_none, turn_off, all_taken}
+use Rattle.onvm_session.proofs.Closing.{all_taken}
 use Rattle.onvm_session.proofs.Leading.{led, led_blocks, led_sends, led_tells}
+use Rattle.onvm_session.proofs.Peeling.{NoneSplit, turns_none, phases_none, turn_off}
 use Rattle.onvm_session.proofs.Reading.{others_are, serial_one, turns_read}
 use Rattle.onvm_session.specs.Accounts.{RunView, Always, AtEachStep, AreMoments, IsDrop, IsSend, IsOverflow, IsThrottle, IsTrue, AreShares, IsAccounted, aged_of}
 use Rattle.onvm_session.specs.Endings.{IsClosed, AreViewMoments, HasEnded, HasLists}

@@ -1,36 +1,26 @@
 -- The closing turn of a session, and the account of the run behind it.
-use Rattle.std.proofs.Common.{◌≡◌, ◌≢◌, ℕ, ◌+◌, ◌-◌, ◌<◌, ◌≤◌, Bool, true, false, inl, inr, List, [], ◌∷◌, ◌++◌, length, refl, sym, ◌∙◌, ap, subst, arith, Some, None, zero, suc}
+use Rattle.std.proofs.Common.{◌≡◌, ◌≢◌, ℕ, ◌-◌, ◌<◌, ◌≤◌, Bool, true, false, inl, inr, List, [], ◌∷◌, ◌++◌, length, refl, sym, ◌∙◌, ap, subst, arith, Some, None, zero, suc}
 use Rattle.std.specs.Prelude.{◌==◌, nat_lt, slice_get}
-use Rattle.std.proofs.lemmas.Bool.{cases_Bool, eq-eqb, ne_eqb, eqb-true, lt-ltb, ltb-true, ltb-false, both_ways}
+use Rattle.std.proofs.lemmas.Bool.{cases_Bool, eq-eqb, ltb-true, ltb-false}
 use Rattle.onvm_base.specs.declared.ids.FnId.{FnId}
 use Rattle.load_estimate.specs.declared.sample.Sample.{Sample}
 use Rattle.load_estimate.specs.declared.tick.Tick.{Tick}
-use Rattle.onvm_core.specs.Layouts.{IsLayout, IsFeeder, core_role, first_role, tick_role}
-use Rattle.onvm_core.specs.History.{History}
-use Rattle.onvm_core.specs.Logs.{Setting, Log}
-use Rattle.onvm_core.specs.Handling.{IsOwn}
-use Rattle.onvm_core.specs.Blocks.{IsOfBlocks, RoleKind, kind_of}
-use Rattle.onvm_core.specs.Blocks.RoleKind.{Receives, Sends, Handles, Ticks}
-use Rattle.onvm_core.specs.Journals.{Handling}
-use Rattle.onvm_core.specs.Settings.{IsSetting, frame_count}
+use Rattle.onvm_core.specs.Blocks.RoleKind.{Handles}
 use Rattle.onvm_core.proofs.Lists.{if_met, if_unmet}
 use Rattle.onvm_core.proofs.RoleKinds.{core_handles, kind_port, kind_sends, kind_tick}
-use Rattle.onvm_promises.specs.Answers.{is_complete}
+use Rattle.onvm_core.specs.Blocks.{IsOfBlocks, RoleKind, kind_of}
+use Rattle.onvm_core.specs.Handling.{IsOwn}
+use Rattle.onvm_core.specs.Journals.{Handling}
+use Rattle.onvm_core.specs.Layouts.{IsLayout, IsFeeder, core_role, first_role, tick_role}
+use Rattle.onvm_core.specs.Logs.{Setting, Log}
+use Rattle.onvm_core.specs.Settings.{IsSetting, frame_count}
 use Rattle.onvm_promises.specs.Kept.{kept_at, kept_now, moment_then, records_by, samples_by}
-use Rattle.onvm_promises.specs.Passes.{IsTickPass, is_pop_of}
+use Rattle.onvm_promises.specs.Passes.{IsTickPass}
 use Rattle.onvm_promises.specs.Rests.{IsSettledFeeder}
-use Rattle.onvm_promises.specs.Roles.{IsTickPromise, IsTickerSoFar}
+use Rattle.onvm_promises.specs.Roles.{IsTickerSoFar}
 use Rattle.onvm_promises.specs.Stretches.{log_until, stretch}
 use Rattle.onvm_promises.specs.Ticks.{AreAllTicks, NeverFall}
 use Rattle.onvm_promises.specs.Times.{aged_by}
-use Rattle.onvm_session.specs.Accounts.{AreShares, IsAccounted, IsWhole, RunView, aged_of}
-use Rattle.onvm_session.specs.Endings.{AreViewMoments, Closes, HasEnded, HasLists, IsClosed, IsClosingMoment, closing_moments}
-use Rattle.onvm_session.specs.Lists.{all_told}
-use Rattle.onvm_session.specs.Moments.{moment_of_round, round_of_turn}
-use Rattle.onvm_session.specs.SerialTicks.{AreSerialTicks}
-use Rattle.onvm_session.specs.Sessions.{AllTold, AreTicksKept, AreTicksTimed, HasTurns, IsPhasedSoFar, IsRolePass, IsRoleSoFar, IsSession, IsSoFar, Keeps, after_turn, with_keeps, with_log}
-use Rattle.onvm_session.specs.Turns.{Turn, joined_count}
-use Rattle.onvm_session.specs.Views.{FinalView, IsHistoryOf, IsLead, turn_of, turns_in}
 use Rattle.onvm_session.proofs.Accounted.{accounted}
 use Rattle.onvm_session.proofs.LastRound.{closing_takes_none, no_samples}
 use Rattle.onvm_session.proofs.Passing.{Passed, passed_of, so_far_blocks}
@@ -38,6 +28,14 @@ use Rattle.onvm_session.proofs.Phasing.{closing_of, phased_lead}
 use Rattle.onvm_session.proofs.Serial.{serial_end}
 use Rattle.onvm_session.proofs.Session.{pass_roles, pass_whole, timed_pass}
 use Rattle.onvm_session.proofs.TickTurns.{all_closed, never_fall, rounds_closed, told_now}
+use Rattle.onvm_session.specs.Accounts.{AreShares, IsAccounted, IsWhole, RunView, aged_of}
+use Rattle.onvm_session.specs.Endings.{AreViewMoments, Closes, HasEnded, HasLists, IsClosed, IsClosingMoment, closing_moments}
+use Rattle.onvm_session.specs.Lists.{all_told}
+use Rattle.onvm_session.specs.Moments.{round_of_turn}
+use Rattle.onvm_session.specs.SerialTicks.{AreSerialTicks}
+use Rattle.onvm_session.specs.Sessions.{AllTold, AreTicksTimed, HasTurns, IsPhasedSoFar, IsRolePass, IsRoleSoFar, IsSession, IsSoFar, Keeps, after_turn, with_keeps, with_log}
+use Rattle.onvm_session.specs.Turns.{Turn, joined_count}
+use Rattle.onvm_session.specs.Views.{FinalView, IsHistoryOf, IsLead, turn_of, turns_in}
 
 -- What a feeder is at rest, whatever its kind
 
@@ -57,7 +55,8 @@ feeder_settled acts start state cost_may_take setting feeder moment log keeps kn
           let from : setting.layout.ports ≤ feeder = ltb-false feeder setting.layout.ports unmet in
           let rests = subst (λ (kind : RoleKind).
           IsRoleSoFar acts start state cost_may_take setting feeder kind moment log keeps)
-          (kind_sends setting.layout feeder (feeder - setting.layout.ports) (omega (arith, from)) (omega (arith, from, known)))
+          (kind_sends setting.layout feeder (feeder - setting.layout.ports) (omega (arith, from)) (omega
+          (arith, from, known)))
           is in
           rests.rests.feeder
     ]
@@ -112,7 +111,8 @@ module _ {S : Type 0} (serial : Bool) (may_tell : ℕ → Type 0) (acts : ℕ �
         passed_of acts start state state cost_may_take setting tick (kind_of setting.layout tick) first now true
         (moments tick) (final.logs tick) after (keeps tick) kept closes.answer (session.roles tick (omega arith))
         (subst (λ (kind : RoleKind).
-        IsRolePass acts start state cost_may_take setting tick kind first now true (moments tick) (final.logs tick) after
+        IsRolePass acts start state cost_may_take setting tick kind first now true (moments tick)
+        (final.logs tick) after
         (keeps tick) kept closes.answer) (sym (kind_tick setting.layout)) closes.pass)
         closes.complete
 
@@ -125,7 +125,8 @@ module _ {S : Type 0} (serial : Bool) (may_tell : ℕ → Type 0) (acts : ℕ �
     logs_are : run.final.logs ≡ with_log tick (passed.added ++ final.logs tick) final.logs
     logs_are = ap (λ (v : FinalView). v.logs) view
 
-    whole : IsWhole setting (aged_of setting last_moments (with_log tick (passed.added ++ final.logs tick) final.logs)) tick
+    whole : IsWhole setting (aged_of setting last_moments (with_log tick (passed.added
+        ++ final.logs tick) final.logs)) tick
         (kind_of setting.layout tick) (final.logs tick) passed.added
     whole =
         pass_whole acts start state state cost_may_take setting moments final keeps tick now after kept passed
@@ -133,7 +134,8 @@ module _ {S : Type 0} (serial : Bool) (may_tell : ℕ → Type 0) (acts : ℕ �
     tick_whole : IsTickPass setting tick (final.logs tick) passed.added
     tick_whole =
         subst (λ (kind : RoleKind).
-        IsWhole setting (aged_of setting last_moments (with_log tick (passed.added ++ final.logs tick) final.logs)) tick kind
+        IsWhole setting (aged_of setting last_moments (with_log tick (passed.added
+        ++ final.logs tick) final.logs)) tick kind
         (final.logs tick) passed.added) (kind_tick setting.layout) whole
 
     roles : (r : ℕ) → r < first_role setting.layout
@@ -183,7 +185,8 @@ module _ {S : Type 0} (serial : Bool) (may_tell : ℕ → Type 0) (acts : ℕ �
     answered : serial ≡ false → (role number : ℕ) → number < length (run.final.logs role)
         → may_tell (last_moments role number)
     answered e =
-        subst (λ (logs : ℕ → Log). (role number : ℕ) → number < length (logs role) → may_tell (last_moments role number))
+        subst (λ (logs : ℕ → Log). (role number : ℕ) → number < length (logs role) → may_tell
+        (last_moments role number))
         (sym logs_are)
         (λ role number less. elim (cases_Bool (role == tick)) [
           | inl met ↦
@@ -191,8 +194,10 @@ module _ {S : Type 0} (serial : Bool) (may_tell : ℕ → Type 0) (acts : ℕ �
               subst (λ (log : Log). number < length log)
               (if_met (role == tick) (passed.added ++ final.logs tick) (final.logs role) met) less in
               subst (λ (m : ℕ → ℕ). may_tell (m number))
-              (sym (if_met (role == tick) (moment_then (moments tick) (length (final.logs tick)) now) (moments role) met))
-              (timed_pass may_tell (moments tick) now passed.added (final.logs tick) (so_far.timed tick) at.0 number at_tick)
+              (sym (if_met (role == tick) (moment_then (moments tick) (length (final.logs tick)) now)
+              (moments role) met))
+              (timed_pass may_tell (moments tick) now passed.added (final.logs tick)
+              (so_far.timed tick) at.0 number at_tick)
           | inr unmet ↦
               let before : number < length (final.logs role) =
               subst (λ (log : Log). number < length log)
@@ -302,7 +307,8 @@ module _ {S : Type 0} (serial : Bool) (may_tell : ℕ → Type 0) (acts : ℕ �
             rounds,
             subst (λ (ts : List Tick). AreSerialTicks setting.plan rounds run.samples ts) (sym closes.ticks)
                 (subst (λ (ss : List Sample). AreSerialTicks setting.plan rounds ss kept.ticks) (sym closes.samples)
-                (rounds_closed setting tick first latest now true (moments tick) (final.logs tick) after (keeps tick) kept
+                (rounds_closed setting tick first latest now true (moments tick) (final.logs tick) after
+                (keeps tick) kept
                 closes.answer was_ticker closes.pass closes.complete session.ticks rises rounds refl at.2 (none_taken e)
                 of)),
           ),

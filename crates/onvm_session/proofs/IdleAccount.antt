@@ -3,17 +3,14 @@ use Rattle.std.proofs.Common.{◌≡◌, ℕ, zero, suc, ◌<◌, true, List, []
 use Rattle.std.specs.Prelude.{slice_get}
 use Rattle.std.proofs.lemmas.Bool.{both_ways}
 use Rattle.std.proofs.lemmas.List.Elements.{All-nil, All-replicate}
-use Rattle.onvm_core.specs.Settings.{IsSetting}
-use Rattle.onvm_core.proofs.WalkEnds.{walk_is_setting}
 use Rattle.onvm_base.specs.declared.ids.FnId.{FnId}
-use Rattle.onvm_core.specs.Receiving.ReceivePhase.{Between}
 use Rattle.load_estimate.specs.declared.tick.Tick.{Tick}
 use Rattle.onvm_core.proofs.Walk.{layout, f}
+use Rattle.onvm_core.proofs.WalkEnds.{walk_is_setting}
 use Rattle.onvm_core.specs.Blocks.{IsOfBlocks}
 use Rattle.onvm_core.specs.Journals.{Handling, GoesThrough, journal}
 use Rattle.onvm_core.specs.Layouts.{IsLayout, core_role}
-use Rattle.onvm_core.specs.Logs.{IsNumbered}
-use Rattle.onvm_core.specs.Receiving.{receive_phase}
+use Rattle.onvm_core.specs.Settings.{IsSetting}
 use Rattle.onvm_promises.specs.Lines.{weights_posted}
 use Rattle.onvm_promises.specs.Passes.{IsTickPass}
 use Rattle.onvm_promises.specs.Rests.{IsSettledFeeder}
@@ -101,7 +98,8 @@ closes t ts e =
     IsTickPass setting u.role (log_until (joined_count u.role ts) (logs u.role))
     (stretch (joined_count u.role ts) u.count (logs u.role))) head
     (subst (λ (us : List Turn).
-    IsTickPass setting 3 (log_until (joined_count 3 us) (logs 3)) (stretch (joined_count 3 us) 2 (logs 3))) rest tick_is.0)
+    IsTickPass setting 3 (log_until (joined_count 3 us) (logs 3)) (stretch (joined_count 3 us) 2
+    (logs 3))) rest tick_is.0)
 
 mails : IsSampled is_cost setting.plan f core_log
 mails = record {
@@ -129,8 +127,11 @@ ended = record {
   timed = λ role number less. refl;
   recorded = refl;
   closing = closes;
-  journals = λ g known.
-      (tt, subst (λ (h : FnId). GoesThrough (acts h.0) tt (journal h (logs (core_role layout h.0))) tt) (only g known) refl);
+  journals = λ g known. (
+    tt,
+    subst (λ (h : FnId). GoesThrough (acts h.0) tt (journal h (logs (core_role layout h.0))) tt)
+        (only g known) refl,
+  );
 }
 
 lists : HasLists setting moments run

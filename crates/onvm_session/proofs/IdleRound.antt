@@ -7,15 +7,15 @@ use Rattle.onvm_core.specs.declared.step.Act.{Act}
 use Rattle.onvm_core.specs.declared.step.Act.TheVariants.{Empty, Look}
 use Rattle.onvm_core.proofs.WalkLogs as walk
 use Rattle.onvm_session.specs.Views.AreTurns.{NoTurn, ATurn}
+use Rattle.onvm_promises.specs.Passes.EndsBarred.{ABar}
+use Rattle.onvm_promises.specs.Passes.EndsWithEmpties.{NoEmpty, OneEmpty}
+use Rattle.onvm_promises.specs.Acts.IsMoveStep.{AnEmpty}
 use Rattle.onvm_core.proofs.Marked.{no_bit}
 use Rattle.onvm_core.proofs.Walk.{layout, f}
 use Rattle.onvm_core.specs.Handling.{IsOwn}
 use Rattle.onvm_core.specs.Logs.{Setting, Log}
 use Rattle.onvm_core.specs.Marks.{Ages}
 use Rattle.onvm_promises.specs.Passes.{EndsBarred, EndsService, EndsWithEmpties, IsReceivePass, IsSendPass, IsCorePass, IsTickPass, IsServed, IsDrained}
-use Rattle.onvm_promises.specs.Passes.EndsBarred.{ABar}
-use Rattle.onvm_promises.specs.Passes.EndsWithEmpties.{NoEmpty, OneEmpty}
-use Rattle.onvm_promises.specs.Acts.IsMoveStep.{AnEmpty}
 use Rattle.onvm_promises.specs.Rests.{IsSettledFeeder}
 use Rattle.onvm_session.specs.Accounts.{AreWhole}
 use Rattle.onvm_session.specs.Views.{FinalView, turns_in, turn_of, IsSerialLead}
@@ -40,7 +40,8 @@ logs (suc (suc (suc zero))) = tick_log
 logs (suc (suc (suc (suc n)))) = []
 
 abbrev pub rounds : Log
-rounds = turn_of 3 18446744073709551615 ++ turn_of 1 18446744073709551615 ++ turn_of 2 18446744073709551615 ++ turn_of 0 18446744073709551615 ++ []
+rounds = turn_of 3 18446744073709551615 ++ turn_of 1 18446744073709551615 ++ turn_of 2 18446744073709551615
+    ++ turn_of 0 18446744073709551615 ++ []
 
 abbrev pub final : FinalView
 final =
@@ -50,8 +51,10 @@ pub lead_is : IsSerialLead layout (turn_of 3 18446744073709551615 ++ rounds)
 lead_is = record {
   rounds = rounds;
   seen = 18446744073709551615;
-  turns = ATurn 18446744073709551615 (turn_of 1 18446744073709551615 ++ turn_of 2 18446744073709551615 ++ turn_of 0 18446744073709551615 ++ [])
-      (ATurn 18446744073709551615 (turn_of 2 18446744073709551615 ++ turn_of 0 18446744073709551615 ++ []) (ATurn 18446744073709551615 (turn_of 0 18446744073709551615 ++ []) (ATurn 18446744073709551615 [] NoTurn)));
+  turns = ATurn 18446744073709551615 (turn_of 1 18446744073709551615 ++ turn_of 2 18446744073709551615
+      ++ turn_of 0 18446744073709551615 ++ [])
+      (ATurn 18446744073709551615 (turn_of 2 18446744073709551615 ++ turn_of 0 18446744073709551615 ++ [])
+      (ATurn 18446744073709551615 (turn_of 0 18446744073709551615 ++ []) (ATurn 18446744073709551615 [] NoTurn)));
   whole = refl;
   closed = refl;
 }
@@ -149,7 +152,8 @@ send_is aged = record {
   };
 }
 
-pub tick_is : IsTickPass setting 3 (Empty (Mail f) ∷ []) (Empty (Mail f) ∷ []) × IsTickPass setting 3 [] (Empty (Mail f) ∷ [])
+pub tick_is : IsTickPass setting 3 (Empty (Mail f) ∷ []) (Empty (Mail f) ∷ []) × IsTickPass setting 3 [] (Empty
+    (Mail f) ∷ [])
 tick_is = (
   record {
     blocks = (omega arith, (omega arith, tt));

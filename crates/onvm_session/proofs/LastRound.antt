@@ -22,7 +22,8 @@ use Rattle.onvm_core.specs.Places.{how_many, one_if}
 use Rattle.onvm_promises.specs.Kept.{kept_now, samples_by}
 use Rattle.onvm_promises.specs.Passes.{IsDrained, IsTickPass, is_pop_of}
 use Rattle.onvm_promises.specs.Stretches.{log_until, stretch}
-use Rattle.onvm_session.proofs.Closing.{NoneSplit, TurnOff, Left, left_made, turn_off, turns_none, all_taken, content_lead, core_away, lawful_made}
+use Rattle.onvm_session.proofs.Closing.{Left, left_made, all_taken, content_lead, core_away}
+use Rattle.onvm_session.proofs.Peeling.{NoneSplit, TurnOff, turn_off, turns_none, lawful_made}
 use Rattle.onvm_session.proofs.Reading.{turns_read}
 use Rattle.onvm_session.proofs.Rounds.{role_last}
 use Rattle.onvm_session.proofs.Serial.{kind_tick}
@@ -44,7 +45,8 @@ module _ (layout : Layout) (past : History) (seen : ℕ) (rest : Log) (f : FnId)
   pub takes_none : content_of (Mail f) (last_turn.before) ≡ [] → how_many (is_pop_of (Mail f)) last_turn.made ≡ 0
   takes_none empty =
       let off : TurnOff layout (tick_role layout) rest past = last_turn in
-      let whole : IsLawful layout (off.look ∷ off.join ∷ (steps_of (tick_role layout) off.made ++ off.split ∷ off.before)) =
+      let whole : IsLawful layout (off.look ∷ off.join ∷ (steps_of (tick_role layout) off.made ++ off.split
+      ∷ off.before)) =
       subst (IsLawful layout) off.parts lawful in
       let split_lawful : IsLawful layout (off.split ∷ off.before) =
       lawful_made layout (tick_role layout) off.made (off.split ∷ off.before) whole.1.1 in

@@ -10,10 +10,12 @@ pub mod IdleRun
 pub mod LastRound
 pub mod Leading
 pub mod Passing
+pub mod Peeling
 pub mod Phasing
 pub mod Places
 pub mod Reading
 pub mod Rounds
+pub mod Seating
 pub mod Serial
 pub mod SerialTicking
 pub mod Session

@@ -1,21 +1,19 @@
 -- A pass that wasn't cut short, whatever its role's kind: the role rests behind it, and what it added is whole.
-use Rattle.std.proofs.Common.{◌≡◌, ℕ, Bool, true, ◌++◌, length, refl, sym, ◌∙◌, subst, Option, None}
+use Rattle.std.proofs.Common.{◌≡◌, ℕ, Bool, true, ◌++◌, length, sym, subst, Option}
 use Rattle.onvm_base.specs.declared.ids.FnId.{FnId}
-use Rattle.onvm_core.specs.Layouts.{IsFeeder}
-use Rattle.onvm_core.specs.Logs.{Setting, Log, Hand}
-use Rattle.onvm_core.specs.Handling.{IsOwn}
-use Rattle.onvm_core.specs.Blocks.{RoleKind, IsOfBlocks}
 use Rattle.onvm_core.specs.Blocks.RoleKind.{Receives, Sends, Handles, Ticks, Leads}
-use Rattle.onvm_core.specs.Journals.{Handling, GoesThrough, journal}
-use Rattle.onvm_core.specs.Marks.{Ages}
 use Rattle.onvm_promises.specs.declared.pass.Pass.{Pass}
+use Rattle.onvm_core.specs.Blocks.{RoleKind, IsOfBlocks}
+use Rattle.onvm_core.specs.Handling.{IsOwn}
+use Rattle.onvm_core.specs.Journals.{Handling, GoesThrough, journal}
+use Rattle.onvm_core.specs.Logs.{Setting, Log, Hand}
+use Rattle.onvm_core.specs.Marks.{Ages}
+use Rattle.onvm_promises.proofs.Evening.{even_pass}
 use Rattle.onvm_promises.specs.Answers.{is_complete}
 use Rattle.onvm_promises.specs.Kept.{moment_then}
-use Rattle.onvm_promises.specs.Rests.{IsSettledFeeder}
 use Rattle.onvm_promises.specs.Roles.{IsCoreSoFar}
 use Rattle.onvm_promises.specs.Sampling.{AreEven, IsEven}
 use Rattle.onvm_promises.specs.Times.{aged_by}
-use Rattle.onvm_promises.proofs.Evening.{even_pass}
 use Rattle.onvm_session.specs.Accounts.{IsWhole}
 use Rattle.onvm_session.specs.Sessions.{AreServedEvenly, IsRolePass, IsRoleSoFar, Keeps}
 
@@ -63,7 +61,8 @@ pub so_far_as : {S : Type 0} (acts : ℕ → S → Handling → S → Type 0) (s
     → ((f : FnId) → IsOwn setting role f → now f.0 ≡ state f.0)
     → IsRoleSoFar acts start state cost_may_take setting role kind moment log keeps
     → IsRoleSoFar acts start now cost_may_take setting role kind moment_now log_now keeps_now
-so_far_as acts start state now cost_may_take setting role kind moment moment_now log log_now keeps keeps_now m l k same is =
+so_far_as acts start state now cost_may_take setting role kind moment moment_now log log_now keeps keeps_now m l k
+    same is =
     subst (λ (x : ℕ → ℕ). IsRoleSoFar acts start now cost_may_take setting role kind x log_now keeps_now) m
     (subst (λ (x : Log). IsRoleSoFar acts start now cost_may_take setting role kind moment x keeps_now) l
     (subst (λ (x : Keeps). IsRoleSoFar acts start now cost_may_take setting role kind moment log x) k

@@ -1,10 +1,10 @@
 -- The places of a round.
-use Rattle.std.proofs.Common.{◌≡◌, ◌≢◌, ℕ, ◌+◌, ◌-◌, ◌<◌, ◌≤◌, inl, inr, List, [], ◌∷◌, refl, sym, ◌∙◌, ap, subst, arith}
-use Rattle.std.specs.Prelude.{◌==◌, nat_lt, if◌then◌else◌}
+use Rattle.std.proofs.Common.{◌≡◌, ◌≢◌, ℕ, ◌+◌, ◌-◌, ◌<◌, ◌≤◌, inl, inr, List, [], ◌∷◌, arith}
+use Rattle.std.specs.Prelude.{◌==◌, nat_lt}
 use Rattle.std.proofs.lemmas.Bool.{cases_Bool, eq-eqb, eqb-false, ltb-true, ltb-false, ne_eqb}
 use Rattle.onvm_core.specs.declared.layout.Layout.{Layout}
-use Rattle.onvm_core.specs.Layouts.{first_role, tick_role}
 use Rattle.onvm_core.proofs.Lists.{if_met, if_unmet}
+use Rattle.onvm_core.specs.Layouts.{first_role, tick_role}
 use Rattle.onvm_session.specs.Moments.{place_of_turn, round_of_turn}
 use Rattle.onvm_session.specs.Turns.{Turn}
 use Rattle.onvm_session.specs.Views.{next_place, role_at}
@@ -46,7 +46,8 @@ role_cases layout place P receives handles sends ticks =
 
 pub role_below : (layout : Layout) (place : ℕ) → role_at layout place < first_role layout
 role_below layout place =
-    role_cases layout place (λ r. r < first_role layout) (λ less. omega (arith, less)) (λ from less. omega (arith, less))
+    role_cases layout place (λ r. r < first_role layout) (λ less. omega (arith, less)) (λ from less. omega
+    (arith, less))
     (λ from less. omega (arith, from, less)) (λ from. omega arith)
 
 -- behind the tick role's turn a round ends

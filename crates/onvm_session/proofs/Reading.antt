@@ -12,7 +12,8 @@ use Rattle.onvm_core.specs.Lawful.{AllowsAct, IsLawful}
 use Rattle.onvm_core.specs.Layouts.{first_role}
 use Rattle.onvm_core.specs.Logs.{Log, log_of}
 use Rattle.onvm_promises.specs.Stretches.{stretch}
-use Rattle.onvm_session.proofs.Weaving.{other_turns, all_woven}
+use Rattle.onvm_session.proofs.Seating.{other_turns}
+use Rattle.onvm_session.proofs.Weaving.{all_woven}
 use Rattle.onvm_session.specs.Moments.{AreInRounds, place_of_turn}
 use Rattle.onvm_session.specs.Turns.{Turn, counts_after, join_counts, turns, turns_after, turns_of, joined_count, seated_after, seated, MaySeat, IsOneByOne, role_steps, steps_of, turn_steps}
 use Rattle.onvm_session.specs.Views.{FinalView, IsHistoryOf, turns_in, join_count, next_place, place_in, role_at, AreTurns, IsSerialLead}

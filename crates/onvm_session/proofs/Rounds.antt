@@ -10,7 +10,7 @@ use Rattle.onvm_core.specs.Layouts.{first_role, tick_role}
 use Rattle.onvm_core.specs.Logs.{Log, log_of}
 use Rattle.onvm_core.specs.Places.{one_if}
 use Rattle.onvm_promises.specs.Stretches.{stretch}
-use Rattle.onvm_session.proofs.Weaving.{log_grows}
+use Rattle.onvm_session.proofs.Seating.{log_grows}
 use Rattle.onvm_session.specs.Moments.{ends_with_tick, rounds_begun, moment_of_round, moment_in, place_of_turn, round_of_turn, AreInRounds, AreShown, AreOfRound, AreAllOfRounds}
 use Rattle.onvm_session.specs.Turns.{Turn, joined_count, steps_of, turn_steps}
 use Rattle.onvm_session.specs.Views.{next_place, role_at}
@@ -123,7 +123,8 @@ role_last layout = role_fourth layout (layout.ports + layout.cores + layout.tran
 role_core : (layout : Layout) (core : ℕ) → core < layout.cores
     → role_at layout (layout.ports + core) ≡ layout.ports + layout.transmit + core
 role_core layout core less =
-    if_unmet (nat_lt (layout.ports + core) layout.ports) (layout.ports + core) (role_second layout (layout.ports + core))
+    if_unmet (nat_lt (layout.ports + core) layout.ports) (layout.ports + core) (role_second layout
+    (layout.ports + core))
     (le-ltb (layout.ports + core) layout.ports (omega arith))
     ∙ if_met (nat_lt (layout.ports + core) (layout.ports + layout.cores)) (layout.ports + core + layout.transmit)
     (role_third layout (layout.ports + core))
@@ -253,7 +254,13 @@ pub stands_turns : (layout : Layout) (core : ℕ) (logs : ℕ → Log) (ts : Lis
     → core < layout.cores → AreInRounds layout ts → AreShown layout core logs ts
     → Stands layout core (place_of_turn layout ts) (round_of_turn layout ts) (turn_steps logs ts)
 stands_turns layout core logs [] ranges are shown =
-    record { within = omega arith; now = refl; shown = λ less. refl; ended = λ first later. absurd (omega (arith, later)) }
+    record {
+      within = omega arith;
+      now = refl;
+      shown = λ less. refl;
+      ended = λ first later. absurd (omega
+          (arith, later));
+    }
 stands_turns layout core logs (t ∷ ts) ranges are shown =
     let at : t.role ≡ role_at layout (place_of_turn layout ts) = are.0 in
     subst (λ (role : ℕ).
@@ -274,7 +281,8 @@ pub all_of_rounds : (layout : Layout) (core : ℕ) (logs : ℕ → Log) (ts : Li
     → AreAllOfRounds layout logs ts
 all_of_rounds layout core logs [] ranges are shown = tt
 all_of_rounds layout core logs (t ∷ ts) ranges are shown = (
-  of_round layout t.role (round_of_turn layout ts) (stretch (joined_count t.role ts) t.count (logs t.role)) (turn_steps logs ts)
+  of_round layout t.role (round_of_turn layout ts) (stretch (joined_count t.role ts) t.count (logs t.role))
+      (turn_steps logs ts)
       (ap (λ (role : ℕ). round_for layout role (turn_steps logs ts)) are.0
       ∙ round_here layout core (place_of_turn layout ts) (round_of_turn layout ts) (turn_steps logs ts) ranges
       (stands_turns layout core logs ts ranges are.1 shown.1)),

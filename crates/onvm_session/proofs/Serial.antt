@@ -180,7 +180,8 @@ module _ (setting : Setting) (moments : ℕ → ℕ → ℕ) (final : FinalView)
       let now = stands.now in
       let round : round_for setting.layout (tick_role setting.layout) (turn_steps final.logs (turns_in final))
       ≡ round_of_turn setting.layout (turns_in final) - 1
-      = closing_is setting.layout (round_of_turn setting.layout (turns_in final)) (turn_steps final.logs (turns_in final))
+      = closing_is setting.layout (round_of_turn setting.layout (turns_in final)) (turn_steps final.logs
+      (turns_in final))
       ends now in (
         record { rounds = final.lead; seen = seen; turns = so_far.turns; whole = whole; closed = refl },
         turn_has setting moments final (tick_role setting.layout) seen

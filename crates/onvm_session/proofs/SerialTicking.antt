@@ -6,11 +6,11 @@ use Rattle.std.proofs.lemmas.List.{append-nil}
 use Rattle.load_estimate.specs.declared.sample.Sample.{Sample}
 use Rattle.load_estimate.specs.declared.tick.Tick.{Tick}
 use Rattle.onvm_base.specs.declared.plan.Plan.{Plan}
-use Rattle.onvm_core.specs.Places.{one_if}
 use Rattle.onvm_core.proofs.Lists.{if_met, if_unmet}
 use Rattle.onvm_core.proofs.Once.{how_many-append}
-use Rattle.onvm_promises.specs.Ticks.{AllUpTo, is_due, last_moment, last_number, new_ticks, tick_at}
+use Rattle.onvm_core.specs.Places.{one_if}
 use Rattle.onvm_promises.proofs.Ticking.{AllAt}
+use Rattle.onvm_promises.specs.Ticks.{AllUpTo, is_due, last_moment, last_number, new_ticks, tick_at}
 use Rattle.onvm_session.specs.Moments.{moment_of_round}
 use Rattle.onvm_session.specs.SerialTicks.{AreSerialTicksSoFar, AreSerialTicks, AreTakenBy, due_moments, last_of_moments, logged_by, moments_of}
 
@@ -120,7 +120,8 @@ taken_new plan first now samples ticks are up =
       | inl due ↦
           subst (λ (ts : List Tick). AreTakenBy samples now (ticks ++ ts))
           (sym (if_met (is_due plan first now ticks) (tick_at plan ticks samples now ∷ []) [] due))
-          (taken_push samples now ticks (tick_at plan ticks samples now) are (sym (logged_all samples now up)) (omega arith))
+          (taken_push samples now ticks (tick_at plan ticks samples now) are (sym (logged_all samples now up))
+          (omega arith))
       | inr not_due ↦
           subst (λ (ts : List Tick). AreTakenBy samples now ts)
           (sym (ap (λ (ts : List Tick). ticks ++ ts)
@@ -167,7 +168,8 @@ serial_ticks_next plan round samples more ticks so_far up all =
         (up_to_later samples (moment_of_round (round - 1)) (moment_of_round round) (omega arith) up)
         (at_up_to more (moment_of_round round) all)
 
-    earlier : (n : ℕ) → round ≡ n → 1000 * suc round < 2 ^ 64 → AreTakenBy (samples ++ more) (moment_of_round round) ticks
+    earlier : (n : ℕ) → round ≡ n → 1000 * suc round < 2 ^ 64 → AreTakenBy (samples ++ more)
+        (moment_of_round round) ticks
     earlier zero e few =
         let none : ticks ≡ [] = no_moments ticks (so_far.moments ∙ ap (due_moments plan.tick) e) in
         subst (AreTakenBy (samples ++ more) (moment_of_round round)) (sym none) tt

@@ -1,32 +1,29 @@
 -- From turn to turn a serial session keeps its invariant.
-use Rattle.std.proofs.Common.{◌≡◌, ◌≢◌, ℕ, ◌+◌, ◌-◌, ◌<◌, ◌≤◌, Bool, true, false, inl, inr, List, [], ◌∷◌, ◌++◌, length, refl, sym, ◌∙◌, ap, subst, arith}
+use Rattle.std.proofs.Common.{◌≡◌, ◌≢◌, ℕ, ◌+◌, ◌<◌, ◌≤◌, true, false, inl, inr, ◌++◌, length, refl, sym, ◌∙◌, ap, subst, arith}
 use Rattle.std.specs.Prelude.{◌==◌, nat_lt}
 use Rattle.std.proofs.lemmas.Bool.{cases_Bool, eqb-true, eqb-false, eq-eqb, ne_eqb, ltb-true, ltb-false}
 use Rattle.std.proofs.lemmas.Bool.Decides.{eqb_tells}
-use Rattle.onvm_base.specs.declared.ids.FnId.{FnId}
-use Rattle.onvm_core.specs.Layouts.{IsLayout, first_role, tick_role}
-use Rattle.onvm_core.specs.Logs.{Setting, Log}
-use Rattle.onvm_core.specs.Blocks.{RoleKind, kind_of}
-use Rattle.onvm_core.specs.Blocks.RoleKind.{Ticks}
-use Rattle.onvm_core.specs.Journals.{Handling}
+use Rattle.onvm_promises.specs.declared.pass.Pass.{Pass}
 use Rattle.onvm_core.proofs.Lists.{if_met, if_unmet}
 use Rattle.onvm_core.proofs.RoleKinds.{kind_tick}
-use Rattle.onvm_promises.specs.declared.pass.Pass.{Pass}
+use Rattle.onvm_core.specs.Blocks.{RoleKind, kind_of}
+use Rattle.onvm_core.specs.Journals.{Handling}
+use Rattle.onvm_core.specs.Layouts.{IsLayout, first_role, tick_role}
+use Rattle.onvm_core.specs.Logs.{Setting, Log}
+use Rattle.onvm_promises.proofs.Keeping.{earlier_moment, later_moment}
 use Rattle.onvm_promises.specs.Answers.{is_complete}
 use Rattle.onvm_promises.specs.Kept.{moment_then}
 use Rattle.onvm_promises.specs.Times.{aged_by}
-use Rattle.onvm_promises.proofs.Keeping.{earlier_moment, later_moment}
-use Rattle.onvm_session.specs.Accounts.{IsWhole, aged_of}
-use Rattle.onvm_session.specs.Moments.{moment_of_round, place_of_turn, round_of_turn}
-use Rattle.onvm_session.specs.Sessions.{AllTold, AreTicksKept, AreTicksOfRounds, AreTicksTimed, IsRolePass, IsRoleSoFar, IsSession, Keeps, OthersKeep, after_phase, after_turn, with_keeps, with_log, with_moment}
-use Rattle.onvm_session.specs.Turns.{Turn}
-use Rattle.onvm_session.specs.Views.{FinalView, place_in, role_at, turns_in}
-use Rattle.onvm_session.proofs.Passing.{Passed, passed_of, so_far_as, whole_at}
-use Rattle.onvm_session.proofs.Places.{place_below, role_below, round_ends, round_stays, tick_last}
 use Rattle.onvm_session.proofs.LastRound.{ends_round}
+use Rattle.onvm_session.proofs.Passing.{Passed, passed_of, so_far_as, whole_at}
 use Rattle.onvm_session.proofs.Phasing.{phase_next}
+use Rattle.onvm_session.proofs.Places.{place_below, role_below, round_ends, round_stays, tick_last}
 use Rattle.onvm_session.proofs.Serial.{read_rounds, serial_turn}
 use Rattle.onvm_session.proofs.TickTurns.{kept_next, rounds_next}
+use Rattle.onvm_session.specs.Accounts.{IsWhole, aged_of}
+use Rattle.onvm_session.specs.Moments.{moment_of_round, place_of_turn, round_of_turn}
+use Rattle.onvm_session.specs.Sessions.{AllTold, AreTicksKept, AreTicksOfRounds, IsRolePass, IsRoleSoFar, IsSession, Keeps, OthersKeep, after_phase, after_turn, with_keeps, with_log, with_moment}
+use Rattle.onvm_session.specs.Views.{FinalView, place_in, role_at, turns_in}
 
 -- A pass, in the terms of the session's moments, logs and lists behind it
 
@@ -78,7 +75,8 @@ module _ {S : Type 0} (acts : ℕ → S → Handling → S → Type 0) (start st
               let same : r ≡ role = eqb-true r role met in
               subst (λ (q : ℕ).
               IsRoleSoFar acts start now cost_may_take setting q (kind_of setting.layout q)
-              (with_moment role moment_now moments q) (with_log role log_now final.logs q) (with_keeps role kept keeps q))
+              (with_moment role moment_now moments q) (with_log role log_now final.logs q)
+              (with_keeps role kept keeps q))
               (sym same)
               (so_far_as acts start now now cost_may_take setting role (kind_of setting.layout role) moment_now
               (with_moment role moment_now moments role) after (with_log role log_now final.logs role) kept
@@ -117,7 +115,8 @@ module _ {S : Type 0} (may_tell : ℕ → Type 0) (acts : ℕ → S → Handling
     at_place = at ∙ ap (role_at setting.layout) (sym (read_rounds setting moments final ranges session.so_far).1)
 
     known : role < first_role setting.layout
-    known = subst (λ (r : ℕ). r < first_role setting.layout) (sym at) (role_below setting.layout (place_in setting.layout final.lead))
+    known = subst (λ (r : ℕ). r < first_role setting.layout) (sym at) (role_below setting.layout
+        (place_in setting.layout final.lead))
 
     pub turn_passed : Passed acts start now cost_may_take setting role (kind_of setting.layout role)
         (moment_of_round (round_of_turn setting.layout (turns_in final))) (moments role) (final.logs role) after kept
@@ -167,8 +166,10 @@ module _ {S : Type 0} (may_tell : ℕ → Type 0) (acts : ℕ → S → Handling
               (sym (round_ends setting.layout
               (record { role = role; count = length (turn_passed.added ++ final.logs role) }) (turns_in final) next))
               (subst (AreTicksOfRounds setting (round + 1) first (moment_of_round round)) kept_is
-              (rounds_next setting tick first latest (moment_of_round round) false (moments tick) (final.logs tick) after
-              (keeps tick) kept answer so_far promise complete session.ticks rises round refl refl session.timed_ticks)),
+              (rounds_next setting tick first latest (moment_of_round round) false (moments tick)
+              (final.logs tick) after
+              (keeps tick) kept answer so_far promise complete session.ticks rises round refl refl
+              session.timed_ticks)),
         )
 
     by_other : role ≢ tick_role setting.layout → TicksBehind latest
@@ -207,7 +208,8 @@ module _ {S : Type 0} (may_tell : ℕ → Type 0) (acts : ℕ → S → Handling
       record {
         so_far =
             serial_turn setting moments final ranges session.so_far role seen turn_passed.added at
-            (pass_whole acts start state now cost_may_take setting moments final keeps role (moment_of_round round) after
+            (pass_whole acts start state now cost_may_take setting moments final keeps role
+            (moment_of_round round) after
             kept turn_passed);
         roles =
             pass_roles acts start state now cost_may_take setting moments final keeps role (moment_of_round round) after
@@ -248,9 +250,11 @@ pub turn_keeps : {S : Type 0} (may_tell : ℕ → Type 0) (acts : ℕ → S → 
     (with_moment role (moment_then (moments role) (length (final.logs role))
     (moment_of_round (round_of_turn setting.layout (turns_in final)))) moments)
     first later (after_turn role seen after final) (with_keeps role kept keeps)
-turn_keeps may_tell acts start state now cost_may_take setting moments first latest final keeps role seen after kept answer
+turn_keeps may_tell acts start state now cost_may_take setting moments first latest final keeps role seen after
+    kept answer
     ranges session at pass complete others =
-    let passed = turn_passed may_tell acts start state now cost_may_take setting moments first latest final keeps role seen
+    let passed = turn_passed may_tell acts start state now cost_may_take setting moments first latest final keeps
+    role seen
     after kept answer ranges session at pass complete others in
     let behind = session_turn may_tell acts start state now cost_may_take setting moments first latest final keeps role
     seen after kept answer ranges session at pass complete others in (

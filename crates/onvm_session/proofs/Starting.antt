@@ -1,23 +1,20 @@
 -- Where a session begins: nothing was done, and its invariant holds.
-use Rattle.std.proofs.Common.{◌≡◌, ℕ, ◌+◌, ◌<◌, Bool, true, false, inl, inr, [], refl, arith, subst, sym}
+use Rattle.std.proofs.Common.{◌≡◌, ℕ, ◌+◌, ◌<◌, Bool, true, false, inl, inr, [], refl, arith}
 use Rattle.std.specs.Prelude.{◌==◌, nat_lt}
-use Rattle.std.proofs.lemmas.Bool.{cases_Bool, eq-eqb, ltb-true, ltb-false, lt-ltb}
-use Rattle.onvm_base.specs.declared.ids.FnId.{FnId}
+use Rattle.std.proofs.lemmas.Bool.{cases_Bool, eq-eqb, ltb-false}
 use Rattle.onvm_core.specs.declared.layout.Layout.{Layout}
-use Rattle.onvm_core.specs.Blocks.{RoleKind, kind_of}
 use Rattle.onvm_core.specs.Blocks.RoleKind.{Receives, Sends, Handles, Ticks, Leads}
-use Rattle.onvm_core.specs.Journals.{Handling}
-use Rattle.onvm_core.specs.Layouts.{first_role, tick_role}
-use Rattle.onvm_core.specs.Logs.{Setting}
-use Rattle.onvm_core.specs.Marks.{Ages}
-use Rattle.onvm_core.proofs.Marked.{no_bit}
-use Rattle.onvm_promises.specs.Kept.{AreFeederKeeps}
-use Rattle.onvm_promises.specs.Rests.{IsSettledFeeder}
-use Rattle.onvm_session.specs.Moments.{moment_of_round}
-use Rattle.onvm_session.specs.Sessions.{IsRoleSoFar, IsSession, Keeps, IsSerialSoFar, IsPhasedSoFar, IsSoFar, AreTicksTimed}
-use Rattle.onvm_session.specs.Starts.{FirstMoment, first_view, no_keeps}
 use Rattle.onvm_session.specs.Views.ArePhases.{NoPhase}
 use Rattle.onvm_session.specs.Views.AreTurns.{NoTurn}
+use Rattle.onvm_core.proofs.Marked.{no_bit}
+use Rattle.onvm_core.specs.Blocks.{RoleKind, kind_of}
+use Rattle.onvm_core.specs.Journals.{Handling}
+use Rattle.onvm_core.specs.Layouts.{first_role}
+use Rattle.onvm_core.specs.Logs.{Setting}
+use Rattle.onvm_core.specs.Marks.{Ages}
+use Rattle.onvm_promises.specs.Rests.{IsSettledFeeder}
+use Rattle.onvm_session.specs.Sessions.{IsRoleSoFar, IsSession, IsSoFar, AreTicksTimed}
+use Rattle.onvm_session.specs.Starts.{FirstMoment, first_view, no_keeps}
 
 settled : (setting : Setting) (feeder : ℕ) (aged : Ages) → IsSettledFeeder setting feeder aged []
 settled setting feeder aged = record { marked = tt; ended = tt; paid = inl no_bit; paced = tt }

@@ -1,9 +1,9 @@
 -- A turn of a serial session keeps what holds between turns.
-use Rattle.std.proofs.Common.{◌≡◌, ℕ, ◌+◌, ◌<◌, ◌≤◌, true, false, inl, inr, List, [], ◌∷◌, ◌++◌, length, refl, sym, ◌∙◌, ap, subst, arith, length-append, append_assoc}
-use Rattle.std.specs.Prelude.{◌==◌, nat_le, nat_lt}
-use Rattle.std.proofs.lemmas.Bool.{cases_Bool, eqb-true, eqb-false, eq-eqb, ne_eqb, le-leb, lt-leb, leb-true, leb-false, lt-ltb, le-ltb, ltb-true, ltb-false}
+use Rattle.std.proofs.Common.{◌≡◌, ℕ, ◌+◌, ◌<◌, ◌≤◌, false, inl, inr, List, [], ◌∷◌, ◌++◌, length, refl, sym, ◌∙◌, ap, subst, arith, length-append, append_assoc}
+use Rattle.std.specs.Prelude.{◌==◌, nat_lt}
+use Rattle.std.proofs.lemmas.Bool.{cases_Bool, eqb-true, eqb-false, eq-eqb, ne_eqb, ltb-true, ltb-false}
 use Rattle.onvm_core.specs.Blocks.RoleKind.{Receives, Sends, Handles, Ticks, Leads}
-use Rattle.onvm_core.proofs.Agreeing.{Agree, marked_same, paid_same, passes_grow, agree_less}
+use Rattle.onvm_core.proofs.Agreeing.{Agree, passes_grow, agree_less}
 use Rattle.onvm_core.proofs.Lists.{if_met, if_unmet}
 use Rattle.onvm_core.proofs.Told.{own_log, foreign_log}
 use Rattle.onvm_core.specs.Blocks.{RoleKind, kind_of}
@@ -14,8 +14,6 @@ use Rattle.onvm_promises.proofs.Aging.{aged_stays, marks_pass_same, feeder_same}
 use Rattle.onvm_promises.proofs.Keeping.{earlier_moment, later_moment}
 use Rattle.onvm_promises.proofs.Stretches.{until_all, since_until, stretch_parts, until_none}
 use Rattle.onvm_promises.specs.Kept.{moment_then}
-use Rattle.onvm_promises.specs.Passes.{IsMarksPass}
-use Rattle.onvm_promises.specs.Rests.{IsSettledFeeder}
 use Rattle.onvm_promises.specs.Stretches.{log_until, acts_since, stretch}
 use Rattle.onvm_promises.specs.Times.{aged_by, passes_in}
 use Rattle.onvm_session.proofs.Rounds.{round_for, moment_old, moment_new}
@@ -98,7 +96,8 @@ whole_aged : (setting : Setting) (left right : ℕ → Ages) (logs : ℕ → Log
     → AreWhole setting right logs ts
 whole_aged setting left right logs [] rising same whole = tt
 whole_aged setting left right logs (t ∷ ts) rising same whole =
-    let parts : stretch (joined_count t.role ts) t.count (logs t.role) ++ log_until (joined_count t.role ts) (logs t.role)
+    let parts : stretch (joined_count t.role ts) t.count (logs t.role) ++ log_until (joined_count t.role ts)
+    (logs t.role)
     ≡ log_until t.count (logs t.role)
     = stretch_parts (joined_count t.role ts) t.count (logs t.role) rising.0 in (
       whole_same setting left right t.role (kind_of setting.layout t.role)
@@ -128,7 +127,8 @@ grew_with role added logs r =
 
 -- The log of a role in what was turn_steps
 
-log_of_own : (role : ℕ) (acts : Log) (past : History) → log_of role (steps_of role acts ++ past) ≡ acts ++ log_of role past
+log_of_own : (role : ℕ) (acts : Log) (past : History) → log_of role (steps_of role acts ++ past) ≡ acts
+    ++ log_of role past
 log_of_own role [] past = refl
 log_of_own role (act ∷ acts) past =
     own_log role (record { role = role; act = act }) (steps_of role acts ++ past) (eq-eqb role role refl)
@@ -158,7 +158,8 @@ log_woven logs (t ∷ ts) role rising =
       | inr unmet ↦
           log_of_other t.role role (stretch (joined_count t.role ts) t.count (logs t.role)) (turn_steps logs ts) unmet
           ∙ log_woven logs ts role rising.1
-          ∙ ap (λ (n : ℕ). log_until n (logs role)) (sym (if_unmet (t.role == role) t.count (joined_count role ts) unmet))
+          ∙ ap (λ (n : ℕ). log_until n (logs role)) (sym (if_unmet (t.role == role) t.count
+          (joined_count role ts) unmet))
     ]
 
 module _ (setting : Setting) (moments : ℕ → ℕ → ℕ) (final : FinalView) (role seen round : ℕ) (added : Log) where
@@ -254,7 +255,8 @@ module _ (setting : Setting) (moments : ℕ → ℕ → ℕ) (final : FinalView)
             size
             (whole_turn setting (aged_of setting now_moments now_logs) final.logs now_logs ts role added grew has.within
             own_log_now (has.kept role)
-            (whole_aged setting (aged_of setting moments final.logs) (aged_of setting now_moments now_logs) final.logs ts
+            (whole_aged setting (aged_of setting moments final.logs) (aged_of setting now_moments now_logs)
+            final.logs ts
             has.rising ages_agree has.whole)
             pass);
         timed = λ r number less. elim (cases_Bool (nat_lt number (length (final.logs r)))) [
@@ -289,7 +291,8 @@ module _ (setting : Setting) (moments : ℕ → ℕ → ℕ) (final : FinalView)
                     ∙ ap (λ (past : History). moment_in setting.layout past role number) (sym woven_now)
                     ∙ ap (λ (q : ℕ).
                     moment_in setting.layout
-                    (turn_steps now_logs (record { role = role; count = length (added ++ final.logs role) } ∷ ts)) q number)
+                    (turn_steps now_logs (record { role = role; count = length (added ++ final.logs role) }
+                    ∷ ts)) q number)
                     (sym same)
                 | inr unmet ↦
                     absurd (omega (

@@ -1,25 +1,24 @@
 -- A pass of the tick role keeps what is said of samples and ticks.
-use Rattle.std.proofs.Common.{◌≡◌, ℕ, suc, ◌<◌, ◌≤◌, Bool, true, false, inl, inr, List, [], ◌∷◌, ◌++◌, length, refl, sym, ◌∙◌, ap, subst, arith}
+use Rattle.std.proofs.Common.{◌≡◌, ℕ, suc, ◌≤◌, Bool, true, false, inl, inr, List, [], ◌∷◌, ◌++◌, length, refl, sym, ◌∙◌, ap, subst, arith}
 use Rattle.std.specs.Prelude.{◌||◌, ◌+◌, ◌-◌}
 use Rattle.std.proofs.lemmas.List.{append-nil}
 use Rattle.std.proofs.lemmas.Bool.{cases_Bool}
 use Rattle.load_estimate.specs.declared.sample.Sample.{Sample}
 use Rattle.load_estimate.specs.declared.tick.Tick.{Tick}
 use Rattle.onvm_base.specs.declared.plan.Plan.{Plan}
-use Rattle.onvm_core.specs.Layouts.{tick_role}
-use Rattle.onvm_core.specs.Logs.{Setting, Log}
-use Rattle.onvm_core.proofs.Lists.{if_met, if_unmet}
 use Rattle.onvm_promises.specs.declared.pass.Pass.{Pass}
+use Rattle.onvm_core.proofs.Lists.{if_met, if_unmet}
+use Rattle.onvm_core.specs.Logs.{Setting, Log}
+use Rattle.onvm_promises.proofs.Keeping.{kept_then}
+use Rattle.onvm_promises.proofs.Ticking.{AllAt, fall_never, taken_now, ticks_closed, ticks_next}
 use Rattle.onvm_promises.specs.Answers.{is_complete}
 use Rattle.onvm_promises.specs.Kept.{kept_at, kept_now, moment_then, samples_by}
 use Rattle.onvm_promises.specs.Roles.{IsTickPromise, IsTickerSoFar, ticks_of_pass}
 use Rattle.onvm_promises.specs.Ticks.{AllUpTo, AreAllTicks, AreTicksSoFar, NeverFall, PostsWeights, is_due, last_moment, new_ticks, tick_at}
-use Rattle.onvm_promises.proofs.Keeping.{kept_then}
-use Rattle.onvm_promises.proofs.Ticking.{AllAt, fall_never, taken_now, ticks_closed, ticks_next}
+use Rattle.onvm_session.proofs.SerialTicking.{at_up_to, serial_ticks_closed, serial_ticks_next, up_to_append, up_to_later}
 use Rattle.onvm_session.specs.Moments.{moment_of_round}
 use Rattle.onvm_session.specs.SerialTicks.{AreSerialTicks, AreSerialTicksSoFar}
 use Rattle.onvm_session.specs.Sessions.{AllTold, AreTicksKept, AreTicksOfRounds, Keeps}
-use Rattle.onvm_session.proofs.SerialTicking.{at_up_to, serial_ticks_closed, serial_ticks_next, up_to_append, up_to_later}
 
 next_is : (n : ℕ) → suc n ≡ n + 1
 next_is n = omega arith
@@ -36,7 +35,8 @@ told_append may_tell (t ∷ ts) more earlier later = (earlier.0, told_append may
 
 -- what a pass makes is no tick, or one of its moment
 new_kinds : (plan : Plan) (first at : ℕ) (closing : Bool) (samples : List Sample) (ticks : List Tick)
-    (P : List Tick → Type 0) → P [] → P (tick_at plan ticks samples at ∷ []) → P (new_ticks plan first at closing samples ticks)
+    (P : List Tick → Type 0) → P [] → P (tick_at plan ticks samples at ∷ []) → P
+    (new_ticks plan first at closing samples ticks)
 new_kinds plan first at closing samples ticks P none one =
     elim (cases_Bool (closing || is_due plan first at ticks)) [
       | inl met ↦
@@ -103,7 +103,8 @@ module _ (setting : Setting) (role first latest at : ℕ) (closing : Bool) (mome
       told_now may_tell told answered =
           subst (AllTold may_tell) (sym ticks_are)
           (told_append may_tell was.ticks (new_ticks setting.plan first at closing (was.samples ++ more) was.ticks) told
-          (new_kinds setting.plan first at closing (was.samples ++ more) was.ticks (AllTold may_tell) tt (answered, tt)))
+          (new_kinds setting.plan first at closing (was.samples ++ more) was.ticks (AllTold may_tell) tt
+          (answered, tt)))
 
       -- a pass that doesn't close the run
       pub kept_next : closing ≡ false → AreTicksKept setting first at after keeps

@@ -1,15 +1,12 @@
 -- What a turn, or a pass, adds: the turns before stay as they were, and the lists grow by what the pass tells.
-use Rattle.std.proofs.Common.{◌≡◌, ℕ, ◌<◌, ◌≤◌, inl, inr, List, [], ◌∷◌, ◌++◌, length, refl, sym, ◌∙◌, ap, subst, arith, length-append, append_assoc}
+use Rattle.std.proofs.Common.{◌≡◌, ℕ, ◌≤◌, inl, inr, List, [], ◌∷◌, ◌++◌, length, refl, sym, ◌∙◌, ap, subst, arith, length-append}
 use Rattle.std.specs.Prelude.{◌==◌}
 use Rattle.std.proofs.lemmas.Bool.{cases_Bool, eqb-true}
-use Rattle.std.proofs.lemmas.List.{append-nil}
-use Rattle.onvm_core.specs.declared.step.Act.{Act}
 use Rattle.onvm_core.specs.Blocks.{kind_of}
 use Rattle.onvm_core.specs.History.{History}
 use Rattle.onvm_core.specs.Logs.{Setting, Log}
 use Rattle.onvm_core.specs.Marks.{Ages}
-use Rattle.onvm_promises.proofs.Stretches.{until_all, until_longer, since_none, since_longer, stretch_added, until_append}
-use Rattle.onvm_promises.specs.Kept.{kept_at, kept_now}
+use Rattle.onvm_promises.proofs.Stretches.{until_all, stretch_added, until_append}
 use Rattle.onvm_promises.specs.Stretches.{log_until, acts_since, stretch}
 use Rattle.onvm_session.specs.Accounts.{IsWhole, AreWhole}
 use Rattle.onvm_session.specs.Turns.{AreWithinLogs, Turn, joined_count, steps_of, turn_steps}
@@ -41,7 +38,8 @@ woven_grew logs now (t ∷ ts) grew are =
     ∙ ap (λ (past : History). steps_of t.role (stretch (joined_count t.role ts) t.count (logs t.role)) ++ past)
     (woven_grew logs now ts grew are.1)
 
-kept_in : (role : ℕ) (logs : ℕ → Log) (ts : List Turn) → AreWithinLogs logs ts → joined_count role ts ≤ length (logs role)
+kept_in : (role : ℕ) (logs : ℕ → Log) (ts : List Turn) → AreWithinLogs logs ts → joined_count role ts ≤ length
+    (logs role)
 kept_in role logs [] are = omega arith
 kept_in role logs (t ∷ ts) are =
     elim (cases_Bool (t.role == role)) [
@@ -74,8 +72,10 @@ whole_grew setting aged logs now (t ∷ ts) grew are whole =
 -- A new turn: the role's log grew by what it added, and all that it had done before was in turns
 
 pub woven_turn : (logs now : ℕ → Log) (ts : List Turn) (role : ℕ) (added : Log)
-    → HaveGrown logs now → AreWithinLogs logs ts → now role ≡ added ++ logs role → joined_count role ts ≡ length (logs role)
-    → turn_steps now (record { role = role; count = length (now role) } ∷ ts) ≡ steps_of role added ++ turn_steps logs ts
+    → HaveGrown logs now → AreWithinLogs logs ts → now role ≡ added ++ logs role → joined_count role ts ≡ length
+    (logs role)
+    → turn_steps now (record { role = role; count = length (now role) } ∷ ts) ≡ steps_of role added
+    ++ turn_steps logs ts
 woven_turn logs now ts role added grew are more kept =
     let part : stretch (joined_count role ts) (length (now role)) (now role) ≡ added =
     ap (λ (m : ℕ). stretch m (length (now role)) (now role)) kept
@@ -85,7 +85,8 @@ woven_turn logs now ts role added grew are more kept =
     ∙ ap (λ (past : History). steps_of role added ++ past) (woven_grew logs now ts grew are)
 
 pub whole_turn : (setting : Setting) (aged : ℕ → Ages) (logs now : ℕ → Log) (ts : List Turn) (role : ℕ) (added : Log)
-    → HaveGrown logs now → AreWithinLogs logs ts → now role ≡ added ++ logs role → joined_count role ts ≡ length (logs role)
+    → HaveGrown logs now → AreWithinLogs logs ts → now role ≡ added ++ logs role → joined_count role ts ≡ length
+    (logs role)
     → AreWhole setting aged logs ts → IsWhole setting aged role (kind_of setting.layout role) (logs role) added
     → AreWhole setting aged now (record { role = role; count = length (now role) } ∷ ts)
 whole_turn setting aged logs now ts role added grew are more kept whole pass =

@@ -76,7 +76,8 @@ pub record HasLists (setting : Setting) (moments : ℕ → ℕ → ℕ) (run : R
 
 -- The closing turn
 
--- its moment: in a serial session, behind whole rounds, that of the last round; in another one that the clock may tell, and
+-- its moment: in a serial session, behind whole rounds, that of the last round; in another one that the clock may
+-- tell, and
 -- not before that of the tick role's last pass
 abbrev pub IsClosingMoment : Bool → (may_tell : ℕ → Type 0) → Setting → FinalView → (latest now : ℕ) → Type 0
 IsClosingMoment true may_tell setting final latest now =
@@ -85,7 +86,8 @@ IsClosingMoment true may_tell setting final latest now =
     × (now ≡ moment_of_round (round_of_turn setting.layout (turns_in final) - 1))
 IsClosingMoment false may_tell setting final latest now = may_tell now × (latest ≤ now)
 
--- the tick role made a last pass, whose turn is the last of the run's view, and the run's samples and ticks are the role's
+-- the tick role made a last pass, whose turn is the last of the run's view, and the run's samples and ticks are the
+-- role's
 pub record Closes (serial : Bool) (may_tell : ℕ → Type 0) (setting : Setting) (moments : ℕ → ℕ → ℕ)
     (first latest : ℕ) (final : FinalView) (keeps : ℕ → Keeps) (seen now : ℕ) (after : Log) (kept : Keeps)
     (run : RunView) : Type 0 where

@@ -27,7 +27,8 @@ moments_of (t ∷ ts) = t.moment ∷ moments_of ts
 abbrev pub logged_by : List Sample → ℕ → ℕ
 logged_by samples moment = how_many (λ s. nat_le s.moment moment) samples
 
--- those of the rounds, and one more, of the last round, that closes the run. Where moments aren't cut off, they tell which
+-- those of the rounds, and one more, of the last round, that closes the run. Where moments aren't cut off, they tell
+-- which
 -- samples a tick counts
 pub record AreSerialTicks (plan : Plan) (rounds : ℕ) (samples : List Sample) (ticks : List Tick) : Type 0 where
   pub moments : moments_of ticks ≡ due_moments plan.tick rounds ++ moment_of_round (rounds - 1) ∷ []

@@ -1,5 +1,5 @@
 -- What holds between the turns of a serial session, and between the phases of another: of each role alone, and of all.
-use Rattle.std.specs.Prelude.{ℕ, suc, zero, ◌≢◌, ◌≡◌, ◌+◌, ◌-◌, ◌<◌, ◌≤◌, Bool, true, false, ◌==◌, if◌then◌else◌, List, [], ◌∷◌, ◌++◌, length, Option, None}
+use Rattle.std.specs.Prelude.{ℕ, suc, zero, ◌≢◌, ◌≡◌, ◌-◌, ◌<◌, ◌≤◌, Bool, true, false, ◌==◌, if◌then◌else◌, List, [], ◌∷◌, ◌++◌, length, Option, None}
 use Rattle.onvm_base.specs.declared.ids.FnId.{FnId}
 use Rattle.onvm_core.specs.Layouts.{first_role, tick_role}
 use Rattle.onvm_core.specs.Logs.{Setting, Log, Hand}

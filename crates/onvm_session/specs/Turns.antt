@@ -1,5 +1,5 @@
 -- The turns of the roles: what the first token's log and kept numbers cut out of the other roles' logs.
-use Rattle.std.specs.Prelude.{ℕ, ◌≡◌, ◌+◌, ◌≤◌, ◌==◌, nat_le, if◌then◌else◌, List, [], ◌∷◌, ◌++◌, length, Option, Some, None}
+use Rattle.std.specs.Prelude.{ℕ, ◌≡◌, ◌≤◌, ◌==◌, if◌then◌else◌, List, [], ◌∷◌, ◌++◌, length, Option, Some, None}
 use Rattle.onvm_core.specs.declared.layout.Layout.{Layout}
 use Rattle.onvm_core.specs.declared.step.Act.{Act}
 use Rattle.onvm_core.specs.declared.step.Act.TheVariants.{Split, Join}
@@ -88,7 +88,8 @@ steps_of role (act ∷ acts) = record { role = role; act = act } ∷ steps_of ro
 -- turn after turn, the steps that the turn's role made since its turn before
 abbrev pub turn_steps : (ℕ → Log) → List Turn → History
 turn_steps logs [] = []
-turn_steps logs (t ∷ ts) = steps_of t.role (stretch (joined_count t.role ts) t.count (logs t.role)) ++ turn_steps logs ts
+turn_steps logs (t ∷ ts) = steps_of t.role (stretch (joined_count t.role ts) t.count (logs t.role))
+    ++ turn_steps logs ts
 
 -- the steps that the role which is split now made since its last turn
 abbrev pub open_steps : (ℕ → Log) → List Turn → Option ℕ → History

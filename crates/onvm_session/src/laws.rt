@@ -23,8 +23,10 @@ use crate::surroundings::Surroundings;
 
 /// Before anything was done the loop's invariant holds.
 pub fn a_session_begins<S, W: Surroundings<S>>(world: &W)
-    ensures { (serial : Bool) (start : ℕ → S) (setting : Setting) (moments : ℕ → ℕ → ℕ) (first : ℕ) → FirstMoment serial first
-        → IsSession serial (W.may_tell world.now) (W.acts world.now) start start (W.cost_may_take world.now) setting moments first first
+    ensures { (serial : Bool) (start : ℕ → S) (setting : Setting) (moments : ℕ → ℕ → ℕ) (first : ℕ)
+        → FirstMoment serial first
+        → IsSession serial (W.may_tell world.now) (W.acts world.now) start start
+        (W.cost_may_take world.now) setting moments first first
         first_view (λ role. no_keeps) }
 {}
 
@@ -34,10 +36,12 @@ pub fn a_turn_keeps_a_session<S, W: Surroundings<S>>(world: &W)
     ensures { (start state now : ℕ → S) (setting : Setting)
         (moments : ℕ → ℕ → ℕ) (first latest : ℕ) (final : FinalView) (keeps : ℕ → Keeps)
         (role seen : ℕ) (after : Log) (kept : Keeps) (answer : Pass) → IsLayout setting.layout
-        → IsSession true (W.may_tell world.now) (W.acts world.now) start state (W.cost_may_take world.now) setting moments first latest
+        → IsSession true (W.may_tell world.now) (W.acts world.now) start state
+        (W.cost_may_take world.now) setting moments first latest
         final keeps
         → role ≡ role_at setting.layout (place_in setting.layout final.lead)
-        → IsRolePass (W.acts world.now) start now (W.cost_may_take world.now) setting role (kind_of setting.layout role) first
+        → IsRolePass (W.acts world.now) start now (W.cost_may_take world.now) setting role
+        (kind_of setting.layout role) first
         (moment_of_round (round_of_turn setting.layout (turns_in final))) false (moments role)
         (final.logs role) after (keeps role) kept answer
         → is_complete answer ≡ true → OthersKeep setting role state now
@@ -53,17 +57,20 @@ pub fn a_phase_keeps_a_session<S, W: Surroundings<S>>(world: &W)
     ensures { (start state now : ℕ → S) (setting : Setting)
         (moments moments_now : ℕ → ℕ → ℕ) (first latest later : ℕ) (final : FinalView)
         (keeps keeps_now : ℕ → Keeps) (seen : ℕ) (logs : ℕ → Log)
-        → IsSession false (W.may_tell world.now) (W.acts world.now) start state (W.cost_may_take world.now) setting moments first latest
+        → IsSession false (W.may_tell world.now) (W.acts world.now) start state
+        (W.cost_may_take world.now) setting moments first latest
         final keeps
         → ((role : ℕ) → first_role setting.layout ≤ role → logs role ≡ final.logs role)
         → ((role number : ℕ) → number < length (logs role) → (W.may_tell world.now) (moments_now role number))
         → ((role : ℕ) → role < first_role setting.layout
-        → IsRoleSoFar (W.acts world.now) start now (W.cost_may_take world.now) setting role (kind_of setting.layout role)
+        → IsRoleSoFar (W.acts world.now) start now (W.cost_may_take world.now) setting role
+        (kind_of setting.layout role)
         (moments_now role) (logs role) (keeps_now role))
         → AreTicksKept setting first later (logs (tick_role setting.layout))
         (keeps_now (tick_role setting.layout))
         → AllTold (W.may_tell world.now) (keeps_now (tick_role setting.layout)).ticks
-        → IsSession false (W.may_tell world.now) (W.acts world.now) start now (W.cost_may_take world.now) setting moments_now first later
+        → IsSession false (W.may_tell world.now) (W.acts world.now) start now
+        (W.cost_may_take world.now) setting moments_now first later
         (after_phase (first_role setting.layout) seen logs final) keeps_now }
 {}
 
@@ -74,7 +81,8 @@ pub fn headline<S, W: Surroundings<S>>(world: &W)
         (setting : Setting) (moments : ℕ → ℕ → ℕ)
         (first latest : ℕ) (final : FinalView) (keeps : ℕ → Keeps) (seen now : ℕ) (after : Log)
         (kept : Keeps) (run : RunView) → IsLayout setting.layout → IsSetting setting
-        → IsSession serial (W.may_tell world.now) (W.acts world.now) start state (W.cost_may_take world.now) setting moments first latest
+        → IsSession serial (W.may_tell world.now) (W.acts world.now) start state
+        (W.cost_may_take world.now) setting moments first latest
         final keeps
         → Closes serial (W.may_tell world.now) setting moments first latest final keeps seen now after kept run
         → IsClosed setting run

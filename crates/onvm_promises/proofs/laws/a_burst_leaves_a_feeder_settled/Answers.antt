@@ -1,7 +1,6 @@
-use Rattle.std.proofs.Common.{◌≡◌, ℕ, ◌+◌, ◌<◌, ◌≤◌, ◌++◌, sym, ◌∙◌, ap, subst, arith, append_assoc}
-use Rattle.onvm_base.specs.declared.ids.FnId.{FnId}
+use Rattle.std.proofs.Common.{◌≡◌, ◌<◌, ◌≤◌, ◌++◌, sym, ◌∙◌, ap, subst, arith, append_assoc}
 use Rattle.onvm_core.specs.Logs.{Log}
-use Rattle.onvm_core.specs.Receiving.{ReceivePhase, done_count, receive_phase}
+use Rattle.onvm_core.specs.Receiving.{ReceivePhase, done_count}
 use Rattle.onvm_core.specs.Receiving.ReceivePhase.{Between}
 use Rattle.onvm_promises.specs.Follows.{ReceivesFrom, receive_phase_from}
 use Rattle.onvm_promises.specs.Rests.{IsSettledFeeder}
