@@ -7,9 +7,9 @@ use Rattle.onvm_core.specs.declared.layout.Layout.{Layout}
 use Rattle.onvm_core.specs.declared.layout.Word.{Word}
 use Rattle.onvm_core.specs.declared.layout.Word.TheVariants.{Cell, Post, Weight}
 use Rattle.onvm_base.specs.declared.limits.TheConstants.{MAIL_RING}
-use Rattle.onvm_core.specs.Layouts.{IsWord}
+use Rattle.onvm_core.specs.Layouts.{IsWord, feeder_count}
 use Rattle.onvm_board.specs.declared.regions.Regions.{Regions}
-use Rattle.onvm_board.specs.Addresses.{word_count, address, cell_address, feeder_count, lanes_at, outputs_at, mails_at}
+use Rattle.onvm_board.specs.Addresses.{word_count, address, cell_address, lanes_at, outputs_at, mails_at}
 use Rattle.onvm_board.specs.Regions.{IsRegions}
 use Rattle.onvm_board.proofs.Separation.{address_below}
 

@@ -7,8 +7,8 @@ use Rattle.onvm_core.specs.declared.layout.Layout.{Layout}
 use Rattle.onvm_core.specs.declared.layout.Word.{Word}
 use Rattle.onvm_core.specs.declared.layout.Word.TheVariants.{Pool, Cell, Post, Weight}
 use Rattle.onvm_base.specs.declared.limits.TheConstants.{MAIL_RING}
-use Rattle.onvm_core.specs.Layouts.{IsWord, same_word}
-use Rattle.onvm_board.specs.Addresses.{feeder_count, part_words, lanes_at, outputs_at, mails_at, posts_at, weights_at, word_count, address}
+use Rattle.onvm_core.specs.Layouts.{IsWord, same_word, feeder_count}
+use Rattle.onvm_board.specs.Addresses.{part_words, lanes_at, outputs_at, mails_at, posts_at, weights_at, word_count, address}
 
 -- Grids: row a of n places each, and place b in it
 

@@ -5,11 +5,8 @@ use Rattle.onvm_base.specs.declared.ids.RingId.TheVariants.{Lane, Output, Mail}
 use Rattle.onvm_core.specs.declared.layout.Layout.{Layout}
 use Rattle.onvm_core.specs.declared.layout.Word.{Word}
 use Rattle.onvm_core.specs.declared.layout.Word.TheVariants.{Pool, Cell, Post, Weight}
+use Rattle.onvm_core.specs.Layouts.{feeder_count}
 use Rattle.onvm_base.specs.declared.limits.TheConstants.{MAIL_RING, WORD_BITS}
-
--- how many roles push on lanes
-abbrev pub feeder_count : Layout → ℕ
-feeder_count layout = layout.ports + layout.transmit
 
 -- how many words a port's part of the pool has
 abbrev pub part_words : Layout → ℕ

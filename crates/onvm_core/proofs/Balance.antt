@@ -26,7 +26,8 @@ use Rattle.onvm_core.proofs.Once.{how_many-append}
 use Rattle.onvm_core.proofs.Loads.{own_load, own_load_is, HasLoad, pool_load, popped_load, content_loaded}
 use Rattle.onvm_core.proofs.Hands.{LetsGo, lets_go}
 use Rattle.std.proofs.lemmas.Option.{slice_get_within}
-use Rattle.onvm_core.proofs.Begun.{starts, own_begins, other_starts, kind_receives, kind_other}
+use Rattle.onvm_core.proofs.Begun.{starts, own_begins, other_starts}
+use Rattle.onvm_core.proofs.RoleKinds.{kind_receives, kind_other}
 
 -- Counts below n of two tests that agree but at one number
 
@@ -34,6 +35,10 @@ same_counts : (f g : ℕ → Bool) (n : ℕ) → ((k : ℕ) → f k ≡ g k)
     → how_many f (numbers_below n) ≡ how_many g (numbers_below n)
 same_counts f g zero h = refl
 same_counts f g (suc n) h = rw (h n, same_counts f g n h) refl
+
+none_below : (f : ℕ → Bool) (n : ℕ) → ((k : ℕ) → k < n → f k ≡ false) → how_many f (numbers_below n) ≡ 0
+none_below f zero h = refl
+none_below f (suc n) h = omega (arith, ap one_if (h n (omega arith)), none_below f n (λ k less. h k (omega arith)))
 
 same_below : (f g : ℕ → Bool) (n x : ℕ) → n ≤ x → ((k : ℕ) → (k ≡ x → ⊥) → f k ≡ g k)
     → how_many f (numbers_below n) ≡ how_many g (numbers_below n)
@@ -336,10 +341,8 @@ one_record setting past numbered lawful blocks ended pooled port number e known 
     let total : record_count frame past + buffer_count setting frame past ≡ one_if (has_begun setting frame past) =
     one_record_or_buffer setting frame past numbered lawful blocks in
     let none : buffer_count setting frame past ≡ 0 =
-    same_counts (λ buf. has_frame frame (load setting buf past)) (λ (buf : ℕ). false)
-    (setting.layout.ports * setting.layout.buffers)
-    (λ buf. ap (has_frame frame) (pool_load setting past buf (pooled buf)))
-    ∙ none_counted (setting.layout.ports * setting.layout.buffers) in
+    none_below (λ buf. has_frame frame (load setting buf past)) (setting.layout.ports * setting.layout.buffers)
+    (λ buf known. ap (has_frame frame) (pool_load setting past buf (pooled buf known))) in
     let within : number < length (entries_of_port port setting.entries) =
     slice_get_within (entries_of_port port setting.entries) number e found in
     let begun : has_begun setting frame past ≡ true =

@@ -1,16 +1,16 @@
 -- What frames an act begins: those that a receive role takes or records, and no other.
-use Rattle.std.proofs.Common.{◌≡◌, ℕ, ◌+◌, true, false, ◌⊎◌, inl, inr, ◌∷◌, refl, ◌∙◌, ap, Some, None}
-use Rattle.std.specs.Prelude.{◌==◌, nat_lt}
+use Rattle.std.proofs.Common.{◌≡◌, ℕ, ◌+◌, ◌⊎◌, inl, inr, ◌∷◌, refl, ◌∙◌, ap, Some, None}
+use Rattle.std.specs.Prelude.{◌==◌}
 use Rattle.std.proofs.lemmas.Bool.{cases_Bool}
 use Rattle.onvm_base.specs.declared.ids.FrameId.{FrameId}
-use Rattle.onvm_core.specs.declared.layout.Layout.{Layout}
 use Rattle.onvm_core.specs.declared.step.Act.{Act}
 use Rattle.onvm_core.specs.declared.step.Act.TheVariants.{Take, Look}
 use Rattle.onvm_core.specs.Places.{one_if}
-use Rattle.onvm_core.specs.Logs.{Setting, Log, feeder_count, entry_after, IsNumbered}
+use Rattle.onvm_core.specs.Layouts.{feeder_count}
+use Rattle.onvm_core.specs.Logs.{Setting, Log, entry_after, IsNumbered}
 use Rattle.onvm_core.specs.Receiving.{ReceivePhase, phase_after_ask, phase_after_seek, receive_after, receive_phase, done_count, IsBetween, IsMarkAct, MayReceive}
 use Rattle.onvm_core.specs.Sending.{SendPhase, send_phase, MaySend}
-use Rattle.onvm_core.specs.Blocks.{RoleKind, kind_of, MayFollow}
+use Rattle.onvm_core.specs.Blocks.{RoleKind, MayFollow}
 use Rattle.onvm_core.specs.Frames.{block_frame, same_frame, begun_count}
 use Rattle.onvm_base.specs.declared.outcome.Record.{Record}
 use Rattle.onvm_base.specs.declared.ids.RingId.TheVariants.{Lane, Output, Mail}
@@ -35,7 +35,7 @@ Begins frame port was now begun =
 
 asked_begun : (setting : Setting) (done k : ℕ) → begun_count (phase_after_ask setting done k None) ≡ done
 asked_begun setting done k =
-    elim (cases_Bool (k + 1 == feeder_count setting)) [ inl met ↦ rw met refl | inr unmet ↦ rw unmet refl ]
+    elim (cases_Bool (k + 1 == feeder_count setting.layout)) [ inl met ↦ rw met refl | inr unmet ↦ rw unmet refl ]
 
 sought_begun : (done k seen : ℕ) → begun_count (phase_after_seek done k seen None) ≡ done
 sought_begun done k seen = elim (cases_Bool (seen == 0)) [ inl met ↦ rw met refl | inr unmet ↦ rw unmet refl ]
@@ -132,19 +132,3 @@ other_starts setting role Leads log (Take b) fresh frame other may = absurd may
 other_starts setting role Leads log (Look w v (Some told)) fresh frame other may =
     absurd (let off : Some told ≡ None = may in cc)
 other_starts setting role kind log act fresh frame other may = refl
-
-pub kind_receives : (layout : Layout) (role : ℕ) → nat_lt role layout.ports ≡ true → kind_of layout role ≡ Receives
-kind_receives layout role e = rw e refl
-
-pub kind_other : (layout : Layout) (role : ℕ) → nat_lt role layout.ports ≡ false → kind_of layout role ≡ Receives → ⊥
-kind_other layout role e =
-    elim (cases_Bool (nat_lt role (layout.ports + layout.transmit))) [
-      | inl met ↦ rw (e, met) (λ off. let two : Sends ≡ Receives = off in cc)
-      | inr unmet ↦ elim (cases_Bool (nat_lt role (layout.ports + layout.transmit + layout.cores))) [
-        | inl met ↦ rw (e, unmet, met) (λ off. let two : Handles ≡ Receives = off in cc)
-        | inr again ↦ elim (cases_Bool (role == layout.ports + layout.transmit + layout.cores)) [
-          | inl met ↦ rw (e, unmet, again, met) (λ off. let two : Ticks ≡ Receives = off in cc)
-          | inr last ↦ rw (e, unmet, again, last) (λ off. let two : Leads ≡ Receives = off in cc)
-        ]
-      ]
-    ]

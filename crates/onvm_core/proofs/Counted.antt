@@ -1,7 +1,7 @@
 -- The counts of a core's samples make up the journals of its functions.
 use Rattle.std.proofs.Common.{◌≡◌, ℕ, ◌+◌, ◌<◌, Bool, true, false, inl, inr, [], ◌∷◌, length, refl, sym, ◌∙◌, ap, subst, arith, length-append, Some, None}
-use Rattle.std.specs.Prelude.{if◌then◌else◌, ◌==◌, nat_lt, slice_index}
-use Rattle.std.proofs.lemmas.Bool.{cases_Bool, eq-eqb, eqb-true, lt-ltb, le-ltb}
+use Rattle.std.specs.Prelude.{if◌then◌else◌, ◌==◌}
+use Rattle.std.proofs.lemmas.Bool.{cases_Bool, eq-eqb, eqb-true}
 use Rattle.std.proofs.lemmas.List.{append-nil}
 use Rattle.onvm_base.specs.declared.ids.FnId.{FnId}
 use Rattle.onvm_base.specs.declared.ids.RingId.TheVariants.{Lane, Output, Mail}
@@ -10,14 +10,14 @@ use Rattle.onvm_core.specs.declared.step.Item.TheVariants.{Buffer, Number}
 use Rattle.onvm_core.specs.declared.step.Act.{Act}
 use Rattle.onvm_core.specs.declared.step.Act.TheVariants.{Push, Full, Pop}
 use Rattle.onvm_core.specs.History.{History}
-use Rattle.onvm_core.specs.declared.layout.Layout.{Layout}
 use Rattle.onvm_core.specs.Layouts.{IsLayout, core_role}
 use Rattle.onvm_core.specs.Logs.{Setting, Log, log_of, Hand, push_count}
 use Rattle.onvm_core.specs.Handling.{core_hand, hand_after, MayHandle}
-use Rattle.onvm_core.specs.Blocks.{kind_of, IsOfBlocks}
+use Rattle.onvm_core.specs.Blocks.{IsOfBlocks}
 use Rattle.onvm_core.specs.Blocks.RoleKind.{Handles}
 use Rattle.onvm_core.specs.Journals.{journal, journal_of, handlings, last_popped_parcel, popped_or}
 use Rattle.onvm_core.specs.Samples.{count_in, is_sampled, sampled_after, unsampled_count_after, unsampled_count, mailed_count, lost_count, MaySample, AreSamples}
+use Rattle.onvm_core.proofs.RoleKinds.{core_handles}
 use Rattle.onvm_core.proofs.Hands.{IsKind, is_kind}
 use Rattle.onvm_core.proofs.Lists.{if_met, if_unmet}
 use Rattle.onvm_core.specs.declared.step.Item.{Item}
@@ -204,23 +204,6 @@ log_counted : (f : FnId) (setting : Setting) (role : ℕ) (log : Log) → IsKind
 log_counted f setting role [] kind samples = refl
 log_counted f setting role (act ∷ before) kind samples =
     sum_step f setting role act before kind.0 samples.0 (log_counted f setting role before kind.1 samples.1)
-
-kind_handles : (layout : Layout) (role core : ℕ) → role ≡ layout.ports + layout.transmit + core → core < layout.cores
-    → kind_of layout role ≡ Handles
-kind_handles layout role core e less =
-    let one : nat_lt role layout.ports ≡ false = le-ltb role layout.ports (omega arith) in
-    let two : nat_lt role (layout.ports + layout.transmit) ≡ false =
-    le-ltb role (layout.ports + layout.transmit) (omega arith) in
-    let three : nat_lt role (layout.ports + layout.transmit + layout.cores) ≡ true =
-    lt-ltb role (layout.ports + layout.transmit + layout.cores) (omega arith) in
-    rw (one, two, three) refl
-
--- the role of a function's core is a core's
-core_handles : (layout : Layout) (f : ℕ) → IsLayout layout → f < layout.functions
-    → kind_of layout (core_role layout f) ≡ Handles
-core_handles layout f is known =
-    kind_handles layout (core_role layout f) (slice_index layout.core_of f) refl
-    (is.core_of f 0 (omega (arith, is.places, is.functions.1, known)))
 
 -- the counts of a function's samples, mailed or lost, and what it handled since make up its journal
 pub samples_count : (setting : Setting) (past : History) (f : FnId)

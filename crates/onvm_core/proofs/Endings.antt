@@ -12,7 +12,8 @@ use Rattle.onvm_core.specs.declared.parcel.Parcel.{Parcel}
 use Rattle.onvm_core.specs.declared.step.Item.TheVariants.{Buffer}
 use Rattle.onvm_core.specs.declared.step.Act.{Act}
 use Rattle.onvm_core.specs.declared.step.Act.TheVariants.{Split, Give, Push, Full, Pop, Look}
-use Rattle.onvm_core.specs.Logs.{Setting, Log, feeder_count}
+use Rattle.onvm_core.specs.Layouts.{feeder_count}
+use Rattle.onvm_core.specs.Logs.{Setting, Log}
 use Rattle.onvm_core.specs.Receiving.{ReceivePhase, phase_after_ask, phase_after_seek, receive_after, receive_phase, IsBetween, MaySeek, EntersBy}
 use Rattle.onvm_core.specs.Receiving.ReceivePhase.{Between, Seeks, Barred}
 use Rattle.onvm_core.specs.Sending.{SendPhase, send_after, send_phase, MaySend, GoesBy}
@@ -33,7 +34,7 @@ EndsSo port log phase = Unit {0}
 asked_so : (setting : Setting) (port done k : ℕ) (told : Option Record) (log : Log)
     → EndsSo port log (phase_after_ask setting done k told)
 asked_so setting port done k None log =
-    elim (cases_Bool (k + 1 == feeder_count setting)) [ inl met ↦ rw met tt | inr unmet ↦ rw unmet tt ]
+    elim (cases_Bool (k + 1 == feeder_count setting.layout)) [ inl met ↦ rw met tt | inr unmet ↦ rw unmet tt ]
 asked_so setting port done k (Some told) log = tt
 
 sought_so : (setting : Setting) (port done k seen : ℕ) (word : Word) (e : Entry) (told : Option Record) (before : Log)

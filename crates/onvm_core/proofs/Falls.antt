@@ -14,26 +14,28 @@ use Rattle.onvm_core.specs.declared.step.Act.{Act}
 use Rattle.onvm_core.specs.declared.step.Act.TheVariants.{Split, Join, Take, Give, Push, Full, Pop, Empty, Look, Post}
 use Rattle.onvm_core.specs.declared.step.Step.{Step}
 use Rattle.onvm_core.specs.declared.place.Place.{Place}
-use Rattle.onvm_core.specs.declared.place.Place.TheVariants.{Ring, Role}
+use Rattle.onvm_core.specs.declared.place.Place.TheVariants.{Pool, Ring, Role}
 use Rattle.onvm_core.specs.History.{History, content_of, place_of, place_by}
-use Rattle.onvm_core.specs.Lawful.{AllowsAct, IsLawful}
+use Rattle.onvm_core.specs.Layouts.{IsBuffer}
+use Rattle.onvm_core.specs.Lawful.{AllowsAct, IsLawful, Suits}
 use Rattle.onvm_core.specs.Logs.{Setting, entries_of_port, Log, log_of, entry_after, IsNumbered}
 use Rattle.onvm_core.specs.Receiving.{ReceivePhase, receive_after, receive_phase, done_count, MayReceive, MayReceiveFor}
 use Rattle.onvm_core.specs.Sending.{SendPhase, send_phase, MaySend}
 use Rattle.onvm_core.specs.Blocks.{RoleKind, kind_of, MayFollow, IsOfBlocks, AllOfBlocks}
 use Rattle.onvm_core.specs.Frames.{Load, load, load_after, block_frame, begun_count}
-use Rattle.onvm_core.specs.Potential.{sum_below, load_potential, waiting_count, potential}
-use Rattle.onvm_base.specs.declared.ids.RingId.TheVariants.{Mail}
+use Rattle.onvm_core.specs.Potential.{sum_below, fresh_potential, load_potential, outputs_by, outputs_on, waiting_count, potential}
+use Rattle.onvm_base.specs.declared.ids.RingId.TheVariants.{Lane, Output, Mail}
 use Rattle.onvm_core.specs.declared.entry.Entry.{Entry}
 use Rattle.onvm_core.specs.Receiving.ReceivePhase.{Between, Asks, Seeks, Sees, Took, Barred}
 use Rattle.onvm_core.specs.Sending.SendPhase.{Free, Moves as Sending, TurnsBack}
 use Rattle.onvm_core.specs.Blocks.RoleKind.{Receives, Sends}
-use Rattle.onvm_core.specs.Frames.Load.{Loaded}
-use Rattle.onvm_core.proofs.Loads.{own_load, own_load_is, HasLoad, pool_load, content_loaded, IsLoaded}
+use Rattle.onvm_core.specs.Frames.Load.{Fresh, Loaded}
+use Rattle.onvm_core.proofs.Loads.{own_load, own_load_is, HasLoad, content_loaded, IsLoaded}
 use Rattle.onvm_core.proofs.Hands.{is_kind}
 use Rattle.onvm_core.proofs.Loads.{IsAt, content_at, first_of}
 use Rattle.onvm_core.proofs.Balance.{own_blocks}
-use Rattle.onvm_core.proofs.Begun.{starts, own_begins, kind_receives, kind_other, other_starts}
+use Rattle.onvm_core.proofs.Begun.{starts, own_begins, other_starts}
+use Rattle.onvm_core.proofs.RoleKinds.{kind_receives, kind_other}
 use Rattle.onvm_core.proofs.Sums.{sum_same}
 use Rattle.std.proofs.lemmas.Option.{slice_get_within}
 use Rattle.onvm_core.proofs.Lighter.{Lighter, lighter_by_kind, short_of, popped_lighter}
@@ -62,121 +64,122 @@ sum_falls f g (suc n) x h le =
       | inr (inr more) ↦ omega (arith, h n (λ e. omega arith), sum_falls f g n x h le)
     ]
 
-abbrev takes : Act → ℕ
+abbrev pub takes : Act → ℕ
 takes (Take b) = 1
 takes _ = 0
 
--- what must be known of places and loads before an act
-abbrev Lightens : Layout → ℕ → (ℕ → Place) → (ℕ → Option Load) → ℕ → Act → Type 0
-Lightens layout role places loads n (Take b) = (b.0 < n) × (loads b.0 ≡ None)
-Lightens layout role places loads n (Push r (Buffer b parcel)) =
-    load_potential layout (Ring r) (Some (Loaded parcel)) ≤ load_potential layout (places b.0) (loads b.0)
-Lightens layout role places loads n (Pop r (Buffer b parcel)) =
-    load_potential layout (Role role) (Some (Loaded parcel)) ≤ load_potential layout (places b.0) (loads b.0)
-Lightens layout role places loads n _ = Unit {0}
+-- What stands in buffers, weighed in some way: a take makes it more by the weight of a frame that was just taken, and a
+-- push on an output ring makes it less by 1 at least
 
-abbrev heavy_after : Layout → ℕ → FrameId → Act → (ℕ → Place) → (ℕ → Option Load) → ℕ → ℕ
-heavy_after layout role fresh act places loads buf =
-    load_potential layout (unwrap_or (place_by buf role act) (places buf)) (load_after buf fresh act (loads buf))
+module _ (weigh : Place → Option Load → ℕ) (fresh_weight : ℕ)
+    (none_weighs : (there : Place) → weigh there None ≡ 0)
+    (fresh_weighs : (role : ℕ) (frame : FrameId) → weigh (Role role) (Some (Fresh frame)) ≡ fresh_weight) where
+  -- what must be known of places and loads before an act
+  abbrev pub Lightens : ℕ → (ℕ → Place) → (ℕ → Option Load) → ℕ → Act → Type 0
+  Lightens role places loads n (Take b) = b.0 < n
+  Lightens role places loads n (Push r (Buffer b parcel)) =
+      (b.0 < n) × (weigh (Ring r) (Some (Loaded parcel)) + outputs_on r ≤ weigh (places b.0) (loads b.0))
+  Lightens role places loads n (Pop r (Buffer b parcel)) =
+      weigh (Role role) (Some (Loaded parcel)) ≤ weigh (places b.0) (loads b.0)
+  Lightens role places loads n _ = Unit {0}
 
-buffers_step : (layout : Layout) (role : ℕ) (fresh : FrameId) (act : Act) (places : ℕ → Place)
-    (loads : ℕ → Option Load) (n : ℕ) → Lightens layout role places loads n act
-    → sum_below (heavy_after layout role fresh act places loads) n
-    ≤ sum_below (λ buf. load_potential layout (places buf) (loads buf)) n + 66 * takes act
-buffers_step layout role fresh (Take b) places loads n facts =
-    let changed : sum_below (heavy_after layout role fresh (Take b) places loads) n
-    + load_potential layout (places b.0) (loads b.0)
-    ≡ sum_below (λ buf. load_potential layout (places buf) (loads buf)) n
-    + heavy_after layout role fresh (Take b) places loads b.0
-    = sum_change (heavy_after layout role fresh (Take b) places loads)
-    (λ buf. load_potential layout (places buf) (loads buf)) n b.0 facts.0
-    (λ k apart. rw (ne_eqb b.0 k (λ e. apart (sym e))) refl) in
-    let now : heavy_after layout role fresh (Take b) places loads b.0 ≡ 66 = rw (eq-eqb b.0 b.0 refl) refl in
-    omega (arith, changed, now)
-buffers_step layout role fresh (Give b outcome parcel) places loads n facts =
-    let now : heavy_after layout role fresh (Give b outcome parcel) places loads b.0 ≡ 0 =
-    rw (eq-eqb b.0 b.0 refl) refl in
-    omega (
-      arith,
-      sum_falls (heavy_after layout role fresh (Give b outcome parcel) places loads)
-          (λ buf. load_potential layout (places buf) (loads buf)) n b.0
-          (λ k apart. rw (ne_eqb b.0 k (λ e. apart (sym e))) refl)
-          (omega (arith, now)),
-    )
-buffers_step layout role fresh (Push r (Buffer b parcel)) places loads n facts =
-    let now : heavy_after layout role fresh (Push r (Buffer b parcel)) places loads b.0
-    ≡ load_potential layout (Ring r) (Some (Loaded parcel))
-    = rw (eq-eqb b.0 b.0 refl) refl in
-    omega (
-      arith,
-      sum_falls (heavy_after layout role fresh (Push r (Buffer b parcel)) places loads)
-          (λ buf. load_potential layout (places buf) (loads buf)) n b.0
-          (λ k apart. rw (ne_eqb b.0 k (λ e. apart (sym e))) refl)
-          (omega (arith, now, facts)),
-    )
-buffers_step layout role fresh (Pop r (Buffer b parcel)) places loads n facts =
-    let now : heavy_after layout role fresh (Pop r (Buffer b parcel)) places loads b.0
-    ≡ load_potential layout (Role role) (Some (Loaded parcel))
-    = rw (eq-eqb b.0 b.0 refl) refl in
-    omega (
-      arith,
-      sum_falls (heavy_after layout role fresh (Pop r (Buffer b parcel)) places loads)
-          (λ buf. load_potential layout (places buf) (loads buf)) n b.0
-          (λ k apart. rw (ne_eqb b.0 k (λ e. apart (sym e))) refl)
-          (omega (arith, now, facts)),
-    )
-buffers_step layout role fresh (Push r (Number m)) places loads n facts =
-    omega (
-      arith,
-      sum_same (heavy_after layout role fresh (Push r (Number m)) places loads)
-          (λ buf. load_potential layout (places buf) (loads buf)) n (λ k less. refl),
-    )
-buffers_step layout role fresh (Pop r (Number m)) places loads n facts =
-    omega (
-      arith,
-      sum_same (heavy_after layout role fresh (Pop r (Number m)) places loads)
-          (λ buf. load_potential layout (places buf) (loads buf)) n (λ k less. refl),
-    )
-buffers_step layout role fresh (Split a) places loads n facts =
-    omega (
-      arith,
-      sum_same (heavy_after layout role fresh (Split a) places loads)
-          (λ buf. load_potential layout (places buf) (loads buf)) n
-          (λ k less. refl),
-    )
-buffers_step layout role fresh (Join a) places loads n facts =
-    omega (
-      arith,
-      sum_same (heavy_after layout role fresh (Join a) places loads)
-          (λ buf. load_potential layout (places buf) (loads buf)) n
-          (λ k less. refl),
-    )
-buffers_step layout role fresh (Full a) places loads n facts =
-    omega (
-      arith,
-      sum_same (heavy_after layout role fresh (Full a) places loads)
-          (λ buf. load_potential layout (places buf) (loads buf)) n
-          (λ k less. refl),
-    )
-buffers_step layout role fresh (Empty a) places loads n facts =
-    omega (
-      arith,
-      sum_same (heavy_after layout role fresh (Empty a) places loads)
-          (λ buf. load_potential layout (places buf) (loads buf)) n
-          (λ k less. refl),
-    )
-buffers_step layout role fresh (Look x y z) places loads n facts =
-    omega (
-      arith,
-      sum_same (heavy_after layout role fresh (Look x y z) places loads)
-          (λ buf. load_potential layout (places buf) (loads buf)) n (λ k less. refl),
-    )
-buffers_step layout role fresh (Post x y) places loads n facts =
-    omega (
-      arith,
-      sum_same (heavy_after layout role fresh (Post x y) places loads)
-          (λ buf. load_potential layout (places buf) (loads buf)) n (λ k less. refl),
-    )
+  abbrev weight_after : ℕ → FrameId → Act → (ℕ → Place) → (ℕ → Option Load) → ℕ → ℕ
+  weight_after role fresh act places loads buf =
+      weigh (unwrap_or (place_by buf role act) (places buf)) (load_after buf fresh act (loads buf))
+
+  pub buffers_step : (role : ℕ) (fresh : FrameId) (act : Act) (places : ℕ → Place) (loads : ℕ → Option Load) (n : ℕ)
+      → Lightens role places loads n act
+      → sum_below (weight_after role fresh act places loads) n + outputs_by act
+      ≤ sum_below (λ buf. weigh (places buf) (loads buf)) n + fresh_weight * takes act
+  buffers_step role fresh (Take b) places loads n facts =
+      let changed : sum_below (weight_after role fresh (Take b) places loads) n + weigh (places b.0) (loads b.0)
+      ≡ sum_below (λ buf. weigh (places buf) (loads buf)) n + weight_after role fresh (Take b) places loads b.0
+      = sum_change (weight_after role fresh (Take b) places loads) (λ buf. weigh (places buf) (loads buf)) n b.0 facts
+      (λ k apart. rw (ne_eqb b.0 k (λ e. apart (sym e))) refl) in
+      let now : weight_after role fresh (Take b) places loads b.0 ≡ fresh_weight =
+      rw (eq-eqb b.0 b.0 refl) (fresh_weighs role fresh) in
+      omega (arith, changed, now)
+  buffers_step role fresh (Give b outcome parcel) places loads n facts =
+      let now : weight_after role fresh (Give b outcome parcel) places loads b.0 ≡ 0 =
+      rw (eq-eqb b.0 b.0 refl) (none_weighs Pool) in
+      omega (
+        arith,
+        sum_falls (weight_after role fresh (Give b outcome parcel) places loads)
+            (λ buf. weigh (places buf) (loads buf)) n b.0
+            (λ k apart. rw (ne_eqb b.0 k (λ e. apart (sym e))) refl)
+            (omega (arith, now)),
+      )
+  buffers_step role fresh (Push r (Buffer b parcel)) places loads n facts =
+      let changed : sum_below (weight_after role fresh (Push r (Buffer b parcel)) places loads) n
+      + weigh (places b.0) (loads b.0)
+      ≡ sum_below (λ buf. weigh (places buf) (loads buf)) n
+      + weight_after role fresh (Push r (Buffer b parcel)) places loads b.0
+      = sum_change (weight_after role fresh (Push r (Buffer b parcel)) places loads)
+      (λ buf. weigh (places buf) (loads buf)) n b.0 facts.0
+      (λ k apart. rw (ne_eqb b.0 k (λ e. apart (sym e))) refl) in
+      let now : weight_after role fresh (Push r (Buffer b parcel)) places loads b.0
+      ≡ weigh (Ring r) (Some (Loaded parcel))
+      = rw (eq-eqb b.0 b.0 refl) refl in
+      omega (arith, changed, now, facts.1)
+  buffers_step role fresh (Pop r (Buffer b parcel)) places loads n facts =
+      let now : weight_after role fresh (Pop r (Buffer b parcel)) places loads b.0
+      ≡ weigh (Role role) (Some (Loaded parcel))
+      = rw (eq-eqb b.0 b.0 refl) refl in
+      omega (
+        arith,
+        sum_falls (weight_after role fresh (Pop r (Buffer b parcel)) places loads)
+            (λ buf. weigh (places buf) (loads buf)) n b.0
+            (λ k apart. rw (ne_eqb b.0 k (λ e. apart (sym e))) refl)
+            (omega (arith, now, facts)),
+      )
+  buffers_step role fresh (Push r (Number m)) places loads n facts =
+      omega (
+        arith,
+        sum_same (weight_after role fresh (Push r (Number m)) places loads) (λ buf. weigh (places buf) (loads buf)) n
+            (λ k less. refl),
+      )
+  buffers_step role fresh (Pop r (Number m)) places loads n facts =
+      omega (
+        arith,
+        sum_same (weight_after role fresh (Pop r (Number m)) places loads) (λ buf. weigh (places buf) (loads buf)) n
+            (λ k less. refl),
+      )
+  buffers_step role fresh (Split a) places loads n facts =
+      omega (
+        arith,
+        sum_same (weight_after role fresh (Split a) places loads) (λ buf. weigh (places buf) (loads buf)) n
+            (λ k less. refl),
+      )
+  buffers_step role fresh (Join a) places loads n facts =
+      omega (
+        arith,
+        sum_same (weight_after role fresh (Join a) places loads) (λ buf. weigh (places buf) (loads buf)) n
+            (λ k less. refl),
+      )
+  buffers_step role fresh (Full a) places loads n facts =
+      omega (
+        arith,
+        sum_same (weight_after role fresh (Full a) places loads) (λ buf. weigh (places buf) (loads buf)) n
+            (λ k less. refl),
+      )
+  buffers_step role fresh (Empty a) places loads n facts =
+      omega (
+        arith,
+        sum_same (weight_after role fresh (Empty a) places loads) (λ buf. weigh (places buf) (loads buf)) n
+            (λ k less. refl),
+      )
+  buffers_step role fresh (Look x y z) places loads n facts =
+      omega (
+        arith,
+        sum_same (weight_after role fresh (Look x y z) places loads) (λ buf. weigh (places buf) (loads buf)) n
+            (λ k less. refl),
+      )
+  buffers_step role fresh (Post x y) places loads n facts =
+      omega (
+        arith,
+        sum_same (weight_after role fresh (Post x y) places loads) (λ buf. weigh (places buf) (loads buf)) n
+            (λ k less. refl),
+      )
 
 no_pop : (setting : Setting) (port : ℕ) (e : Entry) (phase : ReceivePhase) (act : Act) (ring : RingId) (item : Item)
     → act ≡ Pop ring item → MayReceiveFor setting port e phase act
@@ -214,14 +217,31 @@ no_mail_parcel setting role Receives log f b parcel may =
 no_mail_parcel setting role Sends log f b parcel may = no_mail setting role (send_phase log) f b parcel may
 no_mail_parcel setting role kind log f b parcel may = may
 
+-- the potential, which a frame that was taken leaves as it is
+
+no_load_weighs : (layout : Layout) (there : Place) → load_potential layout there None ≡ 0
+no_load_weighs layout there = refl
+
+taken_weighs : (layout : Layout) (role : ℕ) (frame : FrameId)
+    → load_potential layout (Role role) (Some (Fresh frame)) ≡ fresh_potential
+taken_weighs layout role frame = refl
+
+-- what is pushed was held
+pub pushed_known : (layout : Layout) (before : History) (role : ℕ) (r : RingId) (b : BufId) (parcel : Parcel)
+    → Suits layout before role r (Buffer b parcel)
+    → IsBuffer layout b.0
+pushed_known layout before role (Lane f p) b parcel suits = suits.0.known
+pushed_known layout before role (Output f) b parcel suits = suits.0.known
+pushed_known layout before role (Mail f) b parcel suits = absurd suits
+
 -- lawful steps and blocks lighten
 lightens_of : (setting : Setting) (before : History) (role : ℕ) (act : Act)
     → IsLawful setting.layout before → AllowsAct setting.layout before role act
     → IsOfBlocks setting role (act ∷ log_of role before)
-    → Lightens setting.layout role (λ buf. place_of buf before) (λ buf. load setting buf before)
+    → Lightens (load_potential setting.layout) fresh_potential (no_load_weighs setting.layout)
+    (taken_weighs setting.layout) role (λ buf. place_of buf before) (λ buf. load setting buf before)
     (setting.layout.ports * setting.layout.buffers) act
-lightens_of setting before role (Take b) lawful allowed blocks =
-    (allowed.known, pool_load setting before b.0 allowed.in_pool)
+lightens_of setting before role (Take b) lawful allowed blocks = allowed.known
 lightens_of setting before role (Push r (Buffer b parcel)) lawful allowed blocks =
     let kind : RoleKind = kind_of setting.layout role in
     let light : Lighter setting.layout role (own_load setting role (log_of role before)) r b parcel =
@@ -229,7 +249,7 @@ lightens_of setting before role (Push r (Buffer b parcel)) lawful allowed blocks
     (short_of setting.layout before role r b parcel allowed.suits)
     (is_kind setting role (Push r (Buffer b parcel) ∷ log_of role before) kind refl blocks) in
     let had : HasLoad setting before role b.0 light.0 = own_load_is setting before lawful role b.0 light.0 light.1 in
-    rw (had.holder, had.has) light.2
+    (pushed_known setting.layout before role r b parcel allowed.suits, rw (had.holder, had.has) light.2)
 lightens_of setting before role (Pop r (Buffer b parcel)) lawful allowed blocks =
     let at : IsAt r before (Buffer b parcel) =
     first_of (IsAt r before) (content_of r before) (Buffer b parcel) allowed.first
@@ -311,7 +331,7 @@ waiting_apart : (setting : Setting) (step : Step) (before : History) (k : ℕ) �
     → waiting_count setting (step ∷ before) k ≡ waiting_count setting before k
 waiting_apart setting step before k apart = rw (ne_eqb step.role k (λ e. apart (sym e))) refl
 
-waiting_step : (setting : Setting) (step : Step) (before : History)
+pub waiting_step : (setting : Setting) (step : Step) (before : History)
     → IsNumbered setting → AllOfBlocks setting (step ∷ before)
     → sum_below (waiting_count setting (step ∷ before)) setting.layout.ports + takes step.act
     ≤ sum_below (waiting_count setting before) setting.layout.ports
@@ -349,20 +369,22 @@ waiting_step setting step before numbered blocks =
           )
     ]
 
--- no step raises the potential
+-- no step raises the potential, and a push on an output ring lowers it
 pub potential_step : (setting : Setting) (step : Step) (before : History)
     → IsNumbered setting → IsLawful setting.layout (step ∷ before) → AllOfBlocks setting (step ∷ before)
-    → potential setting (step ∷ before) ≤ potential setting before
+    → potential setting (step ∷ before) + outputs_by step.act ≤ potential setting before
 potential_step setting step before numbered lawful blocks =
     let own : IsOfBlocks setting step.role (step.act ∷ log_of step.role before) =
     own_blocks setting step before blocks in
-    let facts : Lightens setting.layout step.role (λ buf. place_of buf before) (λ buf. load setting buf before)
+    let facts : Lightens (load_potential setting.layout) fresh_potential (no_load_weighs setting.layout)
+    (taken_weighs setting.layout) step.role (λ buf. place_of buf before) (λ buf. load setting buf before)
     (setting.layout.ports * setting.layout.buffers) step.act
     = lightens_of setting before step.role step.act lawful.1 lawful.0.allowed own in
     omega (
       arith,
       waiting_step setting step before numbered blocks,
-      buffers_step setting.layout step.role (block_frame setting step.role (log_of step.role before)) step.act
+      buffers_step (load_potential setting.layout) fresh_potential (no_load_weighs setting.layout)
+          (taken_weighs setting.layout) step.role (block_frame setting step.role (log_of step.role before)) step.act
           (λ buf. place_of buf before) (λ buf. load setting buf before)
           (setting.layout.ports * setting.layout.buffers) facts,
     )

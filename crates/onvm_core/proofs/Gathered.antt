@@ -12,7 +12,8 @@ use Rattle.onvm_core.specs.declared.place.Place.TheVariants.{Pool, Ring, Role}
 use Rattle.onvm_core.specs.History.{History, place_of}
 use Rattle.onvm_core.specs.Lawful.{IsLawful}
 use Rattle.onvm_core.specs.Places.{same_place}
-use Rattle.onvm_core.specs.Logs.{Setting, Log, feeder_count, log_of, entries_of_port}
+use Rattle.onvm_core.specs.Layouts.{feeder_count}
+use Rattle.onvm_core.specs.Logs.{Setting, Log, log_of, entries_of_port}
 use Rattle.onvm_core.specs.Receiving.{ReceivePhase, phase_after_ask, phase_after_seek, receive_after, receive_phase, done_count}
 use Rattle.onvm_core.specs.Receiving.ReceivePhase.{Between, Asks, Seeks, Sees, Took, Barred}
 use Rattle.onvm_core.specs.Blocks.{RoleKind, kind_of, AllOfBlocks}
@@ -21,7 +22,8 @@ use Rattle.onvm_core.specs.Frames.{begun_count}
 use Rattle.onvm_core.specs.Potential.{sum_below, waiting_count, potential, outside_count, ring_potential, function_potential, hand_potential, potential_of_logs}
 use Rattle.onvm_core.proofs.Loads.{pool_load}
 use Rattle.onvm_core.proofs.Hands.{IsKind, is_kind}
-use Rattle.onvm_core.proofs.Begun.{kind_receives, kind_other, mark_begins}
+use Rattle.onvm_core.proofs.Begun.{mark_begins}
+use Rattle.onvm_core.proofs.RoleKinds.{kind_receives, kind_other}
 use Rattle.onvm_core.proofs.Sums.{pick, sum_same, sum_zero, sum_none, sum_plus, sum_pick, sum_pick_under, sum_extend, sum_more, sum_regroup}
 use Rattle.onvm_core.proofs.Logged.{Known, place_known, heft, weight_there, ring_weighs}
 use Rattle.onvm_core.proofs.Holders.{taken_weight, taken_by, role_weighs, holder_below}
@@ -76,7 +78,7 @@ in_one_place functions lanes roles (Role role) w stands =
 
 stands_of : (setting : Setting) (past : History) (buf : ℕ) (there : Place)
     → IsLawful setting.layout past → AllOfBlocks setting past → place_of buf past ≡ there
-    → Stands setting.layout.functions (feeder_count setting)
+    → Stands setting.layout.functions (feeder_count setting.layout)
     (setting.layout.ports + setting.layout.transmit + setting.layout.cores) there (heft setting past buf)
 stands_of setting past buf Pool lawful blocks at = rw (pool_load setting past buf at) refl
 stands_of setting past buf (Ring (Lane f feeder)) lawful blocks at =
@@ -96,41 +98,41 @@ stands_of setting past buf (Role role) lawful blocks at = holder_below setting p
 by_place : (setting : Setting) (past : History) → IsLawful setting.layout past → AllOfBlocks setting past
     → sum_below (heft setting past) (setting.layout.ports * setting.layout.buffers)
     ≡ sum_below (λ f.
-    sum_below (λ feeder. weight_there setting past (Ring (Lane (record { 0 = f }) feeder))) (feeder_count setting)
+    sum_below (λ feeder. weight_there setting past (Ring (Lane (record { 0 = f }) feeder))) (feeder_count setting.layout)
     + weight_there setting past (Ring (Output (record { 0 = f })))) setting.layout.functions
     + sum_below (λ role. weight_there setting past (Role role))
     (setting.layout.ports + setting.layout.transmit + setting.layout.cores)
 by_place setting past lawful blocks =
     sum_same (heft setting past) (λ buf.
-    in_rings setting.layout.functions (feeder_count setting) (place_of buf past) (heft setting past buf)
+    in_rings setting.layout.functions (feeder_count setting.layout) (place_of buf past) (heft setting past buf)
     + in_roles (setting.layout.ports + setting.layout.transmit + setting.layout.cores) (place_of buf past)
     (heft setting past buf))
     (setting.layout.ports * setting.layout.buffers)
     (λ buf less.
-    in_one_place setting.layout.functions (feeder_count setting)
+    in_one_place setting.layout.functions (feeder_count setting.layout)
     (setting.layout.ports + setting.layout.transmit + setting.layout.cores) (place_of buf past) (heft setting past buf)
     (stands_of setting past buf (place_of buf past) lawful blocks refl))
     ∙ sum_regroup (λ f feeder buf.
     pick (same_place (place_of buf past) (Ring (Lane (record { 0 = f }) feeder))) (heft setting past buf))
     (λ f buf. pick (same_place (place_of buf past) (Ring (Output (record { 0 = f })))) (heft setting past buf))
     (λ role buf. pick (same_place (place_of buf past) (Role role)) (heft setting past buf))
-    setting.layout.functions (feeder_count setting)
+    setting.layout.functions (feeder_count setting.layout)
     (setting.layout.ports + setting.layout.transmit + setting.layout.cores)
     (setting.layout.ports * setting.layout.buffers)
 
 function_weighs : (setting : Setting) (past : History) → IsLawful setting.layout past → (f : ℕ)
-    → sum_below (λ feeder. weight_there setting past (Ring (Lane (record { 0 = f }) feeder))) (feeder_count setting)
+    → sum_below (λ feeder. weight_there setting past (Ring (Lane (record { 0 = f }) feeder))) (feeder_count setting.layout)
     + weight_there setting past (Ring (Output (record { 0 = f })))
     ≡ function_potential setting (λ role. log_of role past) f
 function_weighs setting past lawful f =
     ap (λ (s : ℕ). s + weight_there setting past (Ring (Output (record { 0 = f }))))
     (sum_same (λ feeder. weight_there setting past (Ring (Lane (record { 0 = f }) feeder)))
     (λ feeder. ring_potential setting (λ role. log_of role past) (Lane (record { 0 = f }) feeder))
-    (feeder_count setting)
+    (feeder_count setting.layout)
     (λ feeder less. ring_weighs setting past lawful (Lane (record { 0 = f }) feeder)))
     ∙ ap (λ (s : ℕ).
     sum_below (λ feeder. ring_potential setting (λ role. log_of role past) (Lane (record { 0 = f }) feeder))
-    (feeder_count setting)
+    (feeder_count setting.layout)
     + s)
     (ring_weighs setting past lawful (Output (record { 0 = f })))
 
@@ -152,7 +154,7 @@ buffers_weigh setting past lawful blocks =
     + sum_below (λ role. weight_there setting past (Role role))
     (setting.layout.ports + setting.layout.transmit + setting.layout.cores))
     (sum_same (λ f. sum_below (λ feeder. weight_there setting past (Ring (Lane (record { 0 = f }) feeder)))
-    (feeder_count setting)
+    (feeder_count setting.layout)
     + weight_there setting past (Ring (Output (record { 0 = f }))))
     (function_potential setting (λ role. log_of role past)) setting.layout.functions
     (λ f less. function_weighs setting past lawful f))
@@ -167,7 +169,7 @@ buffers_weigh setting past lawful blocks =
 asked_more : (setting : Setting) (done k : ℕ) (told : Option Record)
     → begun_count (phase_after_ask setting done k told) ≤ done + 1
 asked_more setting done k None =
-    elim (cases_Bool (k + 1 == feeder_count setting)) [
+    elim (cases_Bool (k + 1 == feeder_count setting.layout)) [
       | inl met ↦ rw met (omega arith)
       | inr unmet ↦ rw unmet (omega arith)
     ]

@@ -8,7 +8,8 @@ use Rattle.onvm_core.specs.declared.parcel.Parcel.{Parcel}
 use Rattle.onvm_core.specs.declared.step.Item.TheVariants.{Buffer, Number}
 use Rattle.onvm_core.specs.declared.step.Act.{Act}
 use Rattle.onvm_core.specs.declared.step.Act.TheVariants.{Give, Push, Full, Pop, Empty, Look}
-use Rattle.onvm_core.specs.Logs.{Setting, Log, Hand, feeder_count, entry_after, entry_parcel, IsNumbered}
+use Rattle.onvm_core.specs.Layouts.{feeder_count}
+use Rattle.onvm_core.specs.Logs.{Setting, Log, Hand, entry_after, entry_parcel, IsNumbered}
 use Rattle.onvm_core.specs.Receiving.{ReceivePhase, phase_after_ask, phase_after_seek, receive_after, receive_phase, done_count, IsBetween, IsMarkAct}
 use Rattle.onvm_core.specs.Handling.{core_hand, hand_after, MayHandle}
 use Rattle.onvm_core.specs.Sending.{SendPhase, send_after, send_phase, MaySend}
@@ -38,7 +39,7 @@ HasTaken port own phase = Unit {0}
 asked_free : (setting : Setting) (port done k : ℕ) (told : Option Record) (own : Option (ℕ × Load))
     → HasTaken port own (phase_after_ask setting done k told)
 asked_free setting port done k None own =
-    elim (cases_Bool (k + 1 == feeder_count setting)) [ inl met ↦ rw met tt | inr unmet ↦ rw unmet tt ]
+    elim (cases_Bool (k + 1 == feeder_count setting.layout)) [ inl met ↦ rw met tt | inr unmet ↦ rw unmet tt ]
 asked_free setting port done k (Some told) own = tt
 
 sought_free : (port done k seen : ℕ) (told : Option Record) (own : Option (ℕ × Load))

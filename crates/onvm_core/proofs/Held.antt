@@ -1,6 +1,6 @@
 -- A mark is raised, holds a frame, and is cleared, in the steps of HeldSteps. They follow the pattern and the rules of
 -- marks passes.
-use Rattle.std.proofs.Common.{◌≡◌, ℕ, zero, suc, ◌/◌, ◌%◌, ◌^◌, true, false, inl, inr, [], ◌∷◌, refl, sym, ◌∙◌, subst, arith, Option, Some, None}
+use Rattle.std.proofs.Common.{◌≡◌, ℕ, zero, suc, ◌/◌, ◌%◌, ◌^◌, true, false, inl, inr, List, [], ◌∷◌, refl, sym, ◌∙◌, subst, arith, Option, Some, None}
 use Rattle.std.specs.Prelude.{◌==◌, IsBitSet, slice_get}
 use Rattle.std.proofs.lemmas.Bool.{cases_Bool, ne_eqb}
 use Rattle.std.proofs.lemmas.Nat.{pow_pos}
@@ -19,11 +19,12 @@ use Rattle.onvm_core.specs.Logs.{Log, entry_parcel, log_of}
 use Rattle.onvm_core.specs.Receiving.{IsThrottleRecord, Raises}
 use Rattle.onvm_core.specs.Handling.SawRoom.{ByLook}
 use Rattle.onvm_core.specs.Blocks.{AllOfBlocks, IsOfBlocks}
-use Rattle.onvm_core.specs.Marks.{MarkEvents, Pass, Ages, AreMarked, AllMarked, IsPaid, IsSettled, IsOwed, has_bit, is_throttled}
+use Rattle.onvm_core.specs.Marks.{MarkEvents, MarkLook, MarkPhase, Pass, Ages, AreMarked, AllMarked, IsPaid, IsSettled, IsOwed, finds, has_bit, is_throttled, mark_phase}
 use Rattle.onvm_core.specs.Marks.MarkEvent.{Passed, Posted}
 use Rattle.onvm_core.specs.Pace.{IsPaced}
-use Rattle.onvm_core.specs.Earned.{IsEarnedThrottle}
-use Rattle.onvm_core.specs.Earned.IsRaised.{ByPost}
+use Rattle.onvm_core.specs.Marks.MarkPhase.{AtRest, InPass}
+use Rattle.onvm_core.specs.Earned.{IsEarnedThrottle, IsRaised, IsRaisedUpToNow}
+use Rattle.onvm_core.specs.Earned.IsRaised.{ByPost, ByAnotherPost, ByPass}
 use Rattle.onvm_core.proofs.Plans.{hasty}
 use Rattle.onvm_core.proofs.Steps.{◌◂◌}
 use Rattle.onvm_core.proofs.WalkLogs.{no_bit, at_role}
@@ -280,14 +281,14 @@ not_in_haste paced = omega (arith, paced.0.0 (omega arith))
 
 -- The held frame's throttle is earned
 
-pub throttle_is_earned : IsEarnedThrottle setting (λ feeder. in_time) raised e3 held 0 1 0
+pub throttle_is_earned : IsEarnedThrottle setting in_time raised e3 held 0 1 0
 throttle_is_earned = record {
   seen = 4294967297;
   shown = refl;
   number = refl;
   held = is_held;
   names = refl;
-  raised = inl (ByPost 4294967297 found_both [] refl refl refl refl);
+  raised = inl (ByPost 4294967297 found_both [] refl refl refl refl refl);
 }
 
 -- Wrong ideas
@@ -307,19 +308,48 @@ not_of_chain of =
     (step_of of.at of.service of.named) of.found)
 
 -- no throttle by a function of another chain is earned, whatever was posted
-pub not_by_another_chain : (aged : ℕ → Ages) (past : History) (told : Record) (feeder post : ℕ)
+pub not_by_another_chain : (aged : Ages) (past : History) (told : Record) (feeder post : ℕ)
     → IsEarnedThrottle setting aged past e3 told feeder post 1
     → ⊥
 not_by_another_chain aged past told feeder post earned =
     not_of_chain (subst (IsOfChain setting.plan e3.chain) earned.names earned.held.raised.of_chain)
 
 -- none is once the mark was cleared, whichever post it names
-pub not_after_clearing : (aged : ℕ → Ages) (told : Record) (post function : ℕ)
+pub not_after_clearing : (aged : Ages) (told : Record) (post function : ℕ)
     → IsEarnedThrottle setting aged cleared e3 told 0 post function
     → ⊥
 not_after_clearing aged told post function earned =
     no_bit earned.held.function
     (subst (λ v. IsBitSet (v % 2 ^ 32) earned.held.function) (sym earned.shown) earned.held.raised.bit)
+
+-- no throttle is earned where no reading had the age
+
+abbrev never : Ages
+never = λ pass function. false
+
+never_raised : (f : ℕ) (events : MarkEvents) → IsRaised never f events → ⊥
+never_raised f events (ByPost value pass before bit none high low time) = let off : false ≡ true = time in cc
+never_raised f events (ByAnotherPost value before bit was) = never_raised f before was
+never_raised f events (ByPass pass before low was) = never_raised f before was
+
+never_up_to_now : (f : ℕ) (phase : MarkPhase) → IsRaisedUpToNow never f phase → ⊥
+never_up_to_now f (InPass next later found events) raised = never_raised f events raised
+never_up_to_now f (AtRest events) (inl raised) = never_raised f events raised
+never_up_to_now f (AtRest events) (inr due) = never_raised f due.before due.raised
+
+pub not_without_the_time : (past : History) (told : Record) (feeder post function : ℕ)
+    → IsEarnedThrottle setting never past e3 told feeder post function
+    → ⊥
+not_without_the_time past told feeder post function earned =
+    never_up_to_now function (mark_phase setting feeder (log_of feeder past)) earned.raised
+
+-- a feeder in a pass may not leave out the pass before
+pub not_in_another_pass : (aged : Ages) (f : ℕ) (next : MarkLook) (later : List MarkLook) (found pass : Pass)
+    (before : MarkEvents)
+    → finds false f pass ≡ false → IsRaisedUpToNow aged f (InPass next later found (Passed pass ∷ before))
+    → ⊥
+not_in_another_pass aged f next later found pass before none (ByPass p b low was) =
+    let off : false ≡ true = sym none ∙ low in cc
 
 late : (k : ℕ) → is_throttled (λ pass function. false) (suc k) (Passed found_both ∷ []) ≡ false
 late k = rw (apart k) refl

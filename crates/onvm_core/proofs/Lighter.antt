@@ -1,6 +1,7 @@
 -- What a role pushes weighs no more on the ring than in its hands, and what it pops no more in its hands.
-use Rattle.std.proofs.Common.{◌≡◌, ℕ, ◌+◌, ◌≤◌, ◌⊎◌, inl, inr, ◌∷◌, length, refl, sym, ◌∙◌, ap, subst, arith, Option, Some}
+use Rattle.std.proofs.Common.{◌≡◌, ℕ, ◌+◌, ◌≤◌, ◌⊎◌, inl, inr, ◌∷◌, length, refl, sym, ◌∙◌, ap, subst, arith, Option, Some, None}
 use Rattle.std.proofs.lemmas.Bool.{cases_Bool, le-ltb}
+use Rattle.onvm_base.specs.declared.limits.TheConstants.{MAX_HOPS}
 use Rattle.onvm_base.specs.declared.ids.RingId.{RingId}
 use Rattle.onvm_base.specs.declared.ids.BufId.{BufId}
 use Rattle.onvm_base.specs.declared.ids.FnId.{FnId}
@@ -19,7 +20,7 @@ use Rattle.onvm_core.specs.Handling.{core_hand, MayHandle, crumb_place}
 use Rattle.onvm_core.specs.Sending.{SendPhase, send_phase, MaySend}
 use Rattle.onvm_core.specs.Blocks.{RoleKind}
 use Rattle.onvm_core.specs.Frames.{Load}
-use Rattle.onvm_core.specs.Potential.{is_sender, load_potential}
+use Rattle.onvm_core.specs.Potential.{is_sender, hops_left, load_potential, outputs_on}
 use Rattle.onvm_base.specs.declared.ids.RingId.TheVariants.{Lane, Output, Mail}
 use Rattle.onvm_core.specs.declared.entry.Entry.{Entry}
 use Rattle.onvm_core.specs.Receiving.ReceivePhase.{Between, Asks, Seeks, Sees, Took, Barred}
@@ -30,12 +31,20 @@ use Rattle.onvm_core.proofs.Loads.{own_load}
 use Rattle.onvm_core.proofs.Hands.{IsKind}
 use Rattle.onvm_core.proofs.Hands.{HasTaken, HasHand, HasSend, receive_has, core_has, send_has}
 
--- What is pushed weighs no more than before
+-- What is pushed weighs no more than before, and on an output ring less
+
+-- how many functions may still handle what is in a buffer
+abbrev pub hops_of : Option Load → ℕ
+hops_of None = 0
+hops_of (Some (Fresh frame)) = MAX_HOPS
+hops_of (Some (Loaded parcel)) = hops_left parcel
 
 abbrev pub Lighter : Layout → ℕ → Option (ℕ × Load) → RingId → BufId → Parcel → Type 0
 Lighter layout role own ring b parcel =
     (what : Load) × (own ≡ Some (b.0, what))
-    × (load_potential layout (Ring ring) (Some (Loaded parcel)) ≤ load_potential layout (Role role) (Some what))
+    × (load_potential layout (Ring ring) (Some (Loaded parcel)) + outputs_on ring
+    ≤ load_potential layout (Role role) (Some what))
+    × (hops_of (Some (Loaded parcel)) + outputs_on ring ≤ hops_of (Some what))
 
 receive_lighter : (setting : Setting) (port : ℕ) (e : Entry) (phase : ReceivePhase) (own : Option (ℕ × Load))
     (ring : RingId) (b : BufId) (parcel : Parcel)
@@ -44,6 +53,7 @@ receive_lighter : (setting : Setting) (port : ℕ) (e : Entry) (phase : ReceiveP
 receive_lighter setting port e (Took done buf) own ring b parcel h may = (
   Fresh (record { port = record { 0 = port }; number = done + 1 }),
   h ∙ ap (λ (n : ℕ). Some (n, Fresh (record { port = record { 0 = port }; number = done + 1 }))) (sym may.0),
+  rw (may.2.lane, may.1) (omega arith),
   rw (may.2.lane, may.1) (omega arith),
 )
 receive_lighter setting port e (Between done) own ring b parcel h may = absurd may
@@ -68,6 +78,7 @@ core_lighter setting role before own (Output f) b parcel h short may =
         | inl met ↦ rw met (omega (arith, longer, short))
         | inr unmet ↦ rw unmet (omega (arith, longer, short))
       ],
+      omega (arith, longer, short),
     )
 core_lighter setting role before own (Mail f) b parcel h short may = absurd may
 core_lighter setting role before own (Lane f p) b parcel h short may = absurd may
@@ -84,6 +95,7 @@ send_lighter setting feeder (Sending hand) own ring b parcel h may =
         | inl met ↦ rw met (omega (arith, same))
         | inr unmet ↦ rw unmet (omega (arith, same))
       ]),
+      rw may.1.1.lane (omega (arith, same)),
     )
 send_lighter setting feeder (TurnsBack hand r) own ring b parcel h may = absurd may
 

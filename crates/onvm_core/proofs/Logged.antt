@@ -29,7 +29,7 @@ use Rattle.onvm_core.proofs.Sums.{pick, sum_same, sum_none, sum_plus, sum_pick}
 -- The ends of a ring
 
 -- only its producer pushes on a ring
-no_push : (layout : Layout) (before : History) (role finish : ℕ) (act : Act) (ring : RingId)
+pub no_push : (layout : Layout) (before : History) (role finish : ℕ) (act : Act) (ring : RingId)
     → AllowsAct layout before role act → producer layout ring ≡ finish → (role == finish) ≡ false
     → pushes ring act ≡ []
 no_push layout before role finish (Push r item) ring allowed at apart =

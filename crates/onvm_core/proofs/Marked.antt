@@ -1,6 +1,6 @@
 -- A post with a function's bit stands only while the passes say so.
 use Rattle.std.proofs.Common.{◌≡◌, ℕ, ◌+◌, ◌/◌, ◌%◌, ◌^◌, ◌<◌, ◌≤◌, Bool, true, false, inl, inr, List, [], ◌∷◌, refl, sym, ◌∙◌, ap, subst, arith}
-use Rattle.std.specs.Prelude.{if◌then◌else◌, ◌==◌, ◌&&◌, IsBitSet}
+use Rattle.std.specs.Prelude.{if◌then◌else◌, ◌==◌, ◌&&◌, ◌⊎◌, IsBitSet}
 use Rattle.std.proofs.lemmas.Bool.{cases_Bool, and_parts, or_cases, eqb-true, eqb-false, eq-eqb, ne_eqb}
 use Rattle.std.proofs.lemmas.Nat.{bit_set_by_shift}
 use Rattle.std.proofs.lemmas.Nat.Bits.{shr_and_one, bit_at-zero}
@@ -15,10 +15,10 @@ use Rattle.onvm_core.specs.Layouts.{IsFeeder}
 use Rattle.onvm_core.specs.History.{History, posted_on, post_or}
 use Rattle.onvm_core.specs.Lawful.{AllowsAct, AllowsPost, IsLawful}
 use Rattle.onvm_core.specs.Logs.{Setting, Log, log_of}
-use Rattle.onvm_core.specs.Marks.{MarkLook, Pass, MarkEvents, Ages, MarkPhase, posts_so_far, last_post, finds, is_throttled, has_bit, IsSettled, IsPaid, IsOwed, looks_of_pass, IsResting, events_in, mark_after_look, mark_after, mark_phase, mark_events, MayMark, AreMarked}
+use Rattle.onvm_core.specs.Marks.{MarkLook, Pass, MarkEvents, Ages, MarkPhase, pass_count, posts_so_far, last_post, finds, is_throttled, has_bit, IsSettled, IsPaid, IsOwed, looks_of_pass, IsResting, events_in, mark_after_look, mark_after, mark_phase, mark_events, MayMark, AreMarked}
 use Rattle.onvm_core.specs.Marks.MarkEvent.{Passed, Posted}
 use Rattle.onvm_core.specs.Marks.MarkPhase.{AtRest, InPass}
-use Rattle.onvm_core.specs.Earned.{IsRaised, IsRaisedUpToNow, Clears, ClearsAtOnce, IsDue, IsPostWithout, IsLaneLook}
+use Rattle.onvm_core.specs.Earned.{IsRaised, IsRaisedBeforeDue, IsRaisedUpToNow, Clears, ClearsAtOnce, IsDue, IsPostWithout, IsLaneLook}
 use Rattle.onvm_core.specs.Earned.IsRaised.{ByPost, ByAnotherPost, ByPass}
 use Rattle.onvm_core.proofs.Lists.{if_met, if_unmet}
 
@@ -91,10 +91,10 @@ found_low aged f pass before throttled = (and_parts (finds false f pass) _ throt
 
 found_high : (aged : Ages) (f : ℕ) (pass : Pass) (before : MarkEvents)
     → is_throttled aged f (Passed pass ∷ before) ≡ true → is_throttled aged f before ≡ false
-    → finds true f pass ≡ true
+    → (finds true f pass ≡ true) × (aged (pass_count before) f ≡ true)
 found_high aged f pass before throttled fresh =
     elim (or_cases _ (is_throttled aged f before) (and_parts (finds false f pass) _ throttled).1) [
-      | inl high ↦ (and_parts (finds true f pass) _ high).0
+      | inl high ↦ and_parts (finds true f pass) (aged (pass_count before) f) high
       | inr again ↦ absurd (not_both (is_throttled aged f before) fresh again)
     ]
 
@@ -115,8 +115,8 @@ paid_low aged f pass before are paid bit =
 -- where a posted bit is from the pass directly before: it found high and low, or the mark was raised already
 raised_post : (aged : Ages) (f value : ℕ) (pass : Pass) (before : MarkEvents)
     → IsOwed aged (Passed pass ∷ before) value → IsPaid aged before → has_bit value f ≡ true
-    → (has_bit (last_post before) f ≡ true → IsRaised f before)
-    → IsRaised f (Posted value ∷ Passed pass ∷ before)
+    → (has_bit (last_post before) f ≡ true → IsRaised aged f before)
+    → IsRaised aged f (Posted value ∷ Passed pass ∷ before)
 raised_post aged f value pass before owed paid bit earlier =
     let chose : (if posts_so_far before + 1 == LAST_POST then false else is_throttled aged f (Passed pass ∷ before))
     ≡ true
@@ -140,14 +140,16 @@ raised_post aged f value pass before owed paid bit earlier =
             | inl already ↦
                 ByAnotherPost value (Passed pass ∷ before) bit (ByPass pass before low (earlier (settled f ∙ already)))
             | inr fresh ↦
-                ByPost value pass before bit (settled f ∙ fresh) (found_high aged f pass before throttled fresh) low
+                let high : (finds true f pass ≡ true) × (aged (pass_count before) f ≡ true) =
+                found_high aged f pass before throttled fresh in
+                ByPost value pass before bit (settled f ∙ fresh) high.0 low high.1
           ]
     ]
 
 -- where no post is owed and the last one has the bit, the mark is raised and not cleared
 raised : (aged : Ages) (f : ℕ) (events : MarkEvents)
     → ArePaid aged events → IsPaid aged events → has_bit (last_post events) f ≡ true
-    → IsRaised f events
+    → IsRaised aged f events
 raised aged f [] are paid bit = absurd (not_both (has_bit 0 f) (no_bit f) bit)
 raised aged f (Passed pass ∷ before) are paid bit =
     ByPass pass before (paid_low aged f pass before are paid bit) (raised aged f before are.1 are.0 bit)
@@ -163,18 +165,36 @@ not_paid : (aged : Ages) (f : ℕ) (pass : Pass) (before : MarkEvents)
 not_paid aged f pass before are bit none paid =
     not_both (finds false f pass) none (paid_low aged f pass before are paid bit)
 
--- the same at each moment, but for the pass that the feeder is in
-pub raised_now : (aged : Ages) (f : ℕ) (events : MarkEvents) → ArePaid aged events → has_bit (last_post events) f ≡ true
-    → IsRaisedUpToNow aged f events
-raised_now aged f [] are bit = absurd (not_both (has_bit 0 f) (no_bit f) bit)
-raised_now aged f (Posted value ∷ before) are bit =
+-- the same at rest, but for a pass whose post is due
+raised_resting : (aged : Ages) (f : ℕ) (events : MarkEvents) → ArePaid aged events → has_bit (last_post events) f ≡ true
+    → IsRaised aged f events ⊎ IsRaisedBeforeDue aged f events
+raised_resting aged f [] are bit = absurd (not_both (has_bit 0 f) (no_bit f) bit)
+raised_resting aged f (Posted value ∷ before) are bit =
     inl (raised aged f (Posted value ∷ before) are (post_pays aged value before are.0) bit)
-raised_now aged f (Passed pass ∷ before) are bit =
-    let was : IsRaised f before = raised aged f before are.1 are.0 bit in
+raised_resting aged f (Passed pass ∷ before) are bit =
+    let was : IsRaised aged f before = raised aged f before are.1 are.0 bit in
     elim (cases_Bool (finds false f pass)) [
       | inl low ↦ inl (ByPass pass before low was)
-      | inr none ↦ inr (pass, before, refl, not_paid aged f pass before are bit none, was)
+      | inr none ↦ inr (record {
+        pass = pass;
+        before = before;
+        newest = refl;
+        due = not_paid aged f pass before are bit none;
+        raised = was;
+      })
     ]
+
+-- no post is owed in a pass
+abbrev pub IsPaidInPass : Ages → MarkPhase → Type 0
+IsPaidInPass aged (AtRest events) = Unit {0}
+IsPaidInPass aged (InPass next later found events) = IsPaid aged events
+
+-- the same at each moment, but for the pass that the feeder is in
+pub raised_now : (aged : Ages) (f : ℕ) (phase : MarkPhase) → ArePaid aged (events_in phase) → IsPaidInPass aged phase
+    → has_bit (last_post (events_in phase)) f ≡ true
+    → IsRaisedUpToNow aged f phase
+raised_now aged f (AtRest events) are paid bit = raised_resting aged f events are bit
+raised_now aged f (InPass next later found events) are paid bit = raised aged f events are paid bit
 
 -- A post that is due
 
@@ -219,6 +239,30 @@ paid_step setting feeder aged before (AtRest events) act are may = are
 paid_step setting feeder aged before (InPass next later found events) (Look (Cell (Lane f p) at) seen told) are may =
     look_paid aged (next ∷ later) seen found events are may.1
 paid_step setting feeder aged before (InPass next later found events) act are may = absurd may
+
+look_in_pass : (aged : Ages) (looks : List MarkLook) (seen : ℕ) (found : Pass) (events : MarkEvents)
+    → IsPaid aged events
+    → IsPaidInPass aged (mark_after_look looks seen found events)
+look_in_pass aged [] seen found events paid = tt
+look_in_pass aged (look ∷ []) seen found events paid = tt
+look_in_pass aged (look ∷ next ∷ later) seen found events paid = paid
+
+in_pass_step : (setting : Setting) (feeder : ℕ) (aged : Ages) (before : Log) (phase : MarkPhase) (act : Act)
+    → MayMark setting feeder aged before phase act
+    → IsPaidInPass aged (mark_after setting feeder before phase act)
+in_pass_step setting feeder aged before (AtRest events) (Look (Cell (Lane f p) at) seen told) may =
+    look_in_pass aged (looks_of_pass setting feeder before) seen [] events may.1
+in_pass_step setting feeder aged before (AtRest events) (Post word value) may = tt
+in_pass_step setting feeder aged before (AtRest events) act may = tt
+in_pass_step setting feeder aged before (InPass next later found events) (Look (Cell (Lane f p) at) seen told) may =
+    look_in_pass aged (next ∷ later) seen found events may.1
+in_pass_step setting feeder aged before (InPass next later found events) act may = absurd may
+
+pub paid_in_pass : (setting : Setting) (feeder : ℕ) (aged : Ages) (log : Log) → AreMarked setting feeder aged log
+    → IsPaidInPass aged (mark_phase setting feeder log)
+paid_in_pass setting feeder aged [] marked = tt
+paid_in_pass setting feeder aged (act ∷ before) marked =
+    in_pass_step setting feeder aged before (mark_phase setting feeder before) act marked.0
 
 pub marks_paid : (setting : Setting) (feeder : ℕ) (aged : Ages) (log : Log) → AreMarked setting feeder aged log
     → ArePaid aged (mark_events setting feeder log)

@@ -6,7 +6,8 @@ use Rattle.onvm_base.specs.declared.ids.FrameId.{FrameId}
 use Rattle.onvm_core.specs.declared.step.Item.TheVariants.{Buffer, Number}
 use Rattle.onvm_core.specs.declared.step.Act.{Act}
 use Rattle.onvm_core.specs.declared.step.Act.TheVariants.{Split, Join, Take, Give, Push, Full, Pop, Empty, Look, Post}
-use Rattle.onvm_core.specs.Logs.{Setting, Log, Hand, feeder_count}
+use Rattle.onvm_core.specs.Layouts.{feeder_count}
+use Rattle.onvm_core.specs.Logs.{Setting, Log, Hand}
 use Rattle.onvm_core.specs.Receiving.{ReceivePhase, phase_after_ask, phase_after_seek, receive_after, receive_phase, done_count, IsBetween, IsMarkAct}
 use Rattle.onvm_core.specs.Handling.{core_hand, hand_after, MayHandle}
 use Rattle.onvm_core.specs.Sending.{SendPhase, send_after, send_phase, MaySend}
@@ -54,7 +55,7 @@ held_in setting role kind log = None
 asked_none : (setting : Setting) (port done k : ℕ) (told : Option Record)
     → taken_in port (phase_after_ask setting done k told) ≡ None
 asked_none setting port done k None =
-    elim (cases_Bool (k + 1 == feeder_count setting)) [ inl met ↦ rw met refl | inr unmet ↦ rw unmet refl ]
+    elim (cases_Bool (k + 1 == feeder_count setting.layout)) [ inl met ↦ rw met refl | inr unmet ↦ rw unmet refl ]
 asked_none setting port done k (Some told) = refl
 
 sought_none : (port done k seen : ℕ) (told : Option Record) → taken_in port (phase_after_seek done k seen told) ≡ None

@@ -1,7 +1,7 @@
 -- Sums below a number.
-use Rattle.std.proofs.Common.{◌≡◌, ℕ, ◌+◌, ◌*◌, ◌<◌, ◌≤◌, zero, suc, Bool, true, false, inl, inr, refl, sym, ◌∙◌, ap, arith}
+use Rattle.std.proofs.Common.{◌≡◌, ℕ, ◌+◌, ◌*◌, ◌<◌, ◌≤◌, zero, suc, Bool, true, false, inl, inr, refl, sym, ◌∙◌, ap, subst, arith}
 use Rattle.std.specs.Prelude.{◌==◌, ◌&&◌}
-use Rattle.std.proofs.lemmas.Bool.{eq-eqb, ne_eqb, cases_order}
+use Rattle.std.proofs.lemmas.Bool.{cases_Bool, eqb-true, eqb-false, eq-eqb, ne_eqb, cases_order}
 use Rattle.onvm_core.specs.Potential.{sum_below}
 
 -- the number where the test holds, else 0
@@ -30,7 +30,7 @@ pub sum_swap : (f : ℕ → ℕ → ℕ) (n m : ℕ)
 sum_swap f zero m = sym (sum_zero m)
 sum_swap f (suc n) m = omega (arith, sum_swap f n m, sum_plus (f n) (λ b. sum_below (λ a. f a b) n) m)
 
-sum_apart : (g : ℕ → ℕ) (x n : ℕ) → n ≤ x → sum_below (λ k. pick (x == k) (g k)) n ≡ 0
+pub sum_apart : (g : ℕ → ℕ) (x n : ℕ) → n ≤ x → sum_below (λ k. pick (x == k) (g k)) n ≡ 0
 sum_apart g x zero le = refl
 sum_apart g x (suc n) le = rw (ne_eqb x n (λ e. omega arith)) (omega (arith, sum_apart g x n (omega arith)))
 
@@ -42,6 +42,15 @@ sum_pick g x (suc n) less =
       | inl e ↦ rw (eq-eqb x n e) (omega (arith, ap g e, sum_apart g x n (omega arith)))
       | inr (inl before) ↦ rw (ne_eqb x n (λ e. omega arith)) (omega (arith, sum_pick g x n before))
       | inr (inr after) ↦ absurd (omega arith)
+    ]
+
+-- a term that is 1 at one number at most
+pub sum_pick_one : (x n : ℕ) → sum_below (λ k. pick (x == k) 1) n ≤ 1
+sum_pick_one x n =
+    elim (cases_order x n) [
+      | inl e ↦ omega (arith, sum_apart (λ k. 1) x n (omega (arith, e)))
+      | inr (inl before) ↦ omega (arith, sum_pick (λ k. 1) x n before)
+      | inr (inr after) ↦ omega (arith, sum_apart (λ k. 1) x n (omega (arith, after)))
     ]
 
 -- the same under a test
@@ -57,6 +66,39 @@ sum_extend f n (suc r) le h =
       | inl e ↦ rw e refl
       | inr (inl before) ↦ omega (arith, h r (omega arith), sum_extend f n r (omega arith) h)
       | inr (inr after) ↦ absurd (omega arith)
+    ]
+
+-- sums of larger terms, and those that reach this bound
+
+pub sum_le : (f g : ℕ → ℕ) (n : ℕ) → ((k : ℕ) → k < n → f k ≤ g k) → sum_below f n ≤ sum_below g n
+sum_le f g zero h = omega arith
+sum_le f g (suc n) h = omega (arith, h n (omega arith), sum_le f g n (λ k less. h k (omega arith)))
+
+pub sum_full : (f g : ℕ → ℕ) (n : ℕ) → ((k : ℕ) → k < n → f k ≤ g k) → sum_below f n ≡ sum_below g n
+    → (k : ℕ) → k < n → f k ≡ g k
+sum_full f g zero h e k less = absurd (omega (arith, less))
+sum_full f g (suc n) h e k less =
+    let top : f n ≤ g n = h n (omega arith) in
+    let rest : sum_below f n ≤ sum_below g n = sum_le f g n (λ k less. h k (omega arith)) in
+    elim (cases_Bool (k == n)) [
+      | inl met ↦
+          subst (λ (m : ℕ). f m ≡ g m) (sym (eqb-true k n met)) (omega (arith, e, top, rest))
+      | inr unmet ↦
+          sum_full f g n (λ k less. h k (omega arith)) (omega (arith, e, top, rest)) k
+          (omega (arith, less, eqb-false k n unmet))
+    ]
+
+pub sum_ones : (n : ℕ) → sum_below (λ k. 1) n ≡ n
+sum_ones zero = refl
+sum_ones (suc n) = omega (arith, sum_ones n)
+
+-- a term is at most the sum
+pub term_below : (f : ℕ → ℕ) (k n : ℕ) → k < n → f k ≤ sum_below f n
+term_below f k zero less = absurd (omega (arith, less))
+term_below f k (suc n) less =
+    elim (cases_Bool (k == n)) [
+      | inl met ↦ let same : f k ≡ f n = ap f (eqb-true k n met) in omega (arith, same)
+      | inr unmet ↦ omega (arith, term_below f k n (omega (arith, less, eqb-false k n unmet)))
     ]
 
 -- a multiple, with something more

@@ -17,13 +17,13 @@ use Rattle.onvm_core.specs.Words.{value_of}
 use Rattle.onvm_core.specs.Logs.{Setting, log_of, entry_after}
 use Rattle.onvm_core.specs.Receiving.{IsThrottleRecord}
 use Rattle.onvm_core.specs.Blocks.{AllOfBlocks}
-use Rattle.onvm_core.specs.Marks.{MarkEvents, Ages, AllMarked, has_bit, last_post, mark_events}
+use Rattle.onvm_core.specs.Marks.{MarkEvents, Ages, AreMarked, has_bit, last_post, mark_events, mark_phase}
 use Rattle.onvm_core.specs.Earned.{Clears, ClearsAtOnce, IsEarnedThrottle}
 use Rattle.onvm_core.proofs.Earning.{Gives, told_by, not_throttled_empty}
-use Rattle.onvm_core.proofs.Marked.{bit_of_set, cleared, cleared_at_once, marks_paid, posted_is, raised_now}
+use Rattle.onvm_core.proofs.Marked.{bit_of_set, cleared, cleared_at_once, marks_paid, paid_in_pass, posted_is, raised_now}
 
 -- the frame is the port's, its record is a look's at the feeder's word, and the throttle is earned
-abbrev pub TellsThrottle : Setting → (ℕ → Ages) → Step → History → Record → (feeder post function : ℕ) → Type 0
+abbrev pub TellsThrottle : Setting → Ages → Step → History → Record → (feeder post function : ℕ) → Type 0
 TellsThrottle setting aged step before told feeder post function =
     (e : Entry) × (done : ℕ) × (entry_after setting step.role done ≡ Some e) × (told.frame ≡ e.frame)
     × (step.act ≡ Look (PostWord feeder) (value_of setting.layout before (PostWord feeder)) (Some told))
@@ -33,9 +33,9 @@ throttle_parts : (k n p m : ℕ) (f g : FnId) → ◌≡◌ {A = Outcome} (Throt
     → (k ≡ p) × (n ≡ m) × (f ≡ g)
 throttle_parts k n p m f g e = (cc, cc, cc)
 
-look_earned : (setting : Setting) (aged : ℕ → Ages) (step : Step) (before : History) (told : Record) (k seen : ℕ)
+look_earned : (setting : Setting) (aged : Ages) (step : Step) (before : History) (told : Record) (k seen : ℕ)
     (e : Entry)
-    → IsLawful setting.layout (step ∷ before) → AllMarked setting aged before
+    → IsLawful setting.layout (step ∷ before) → AreMarked setting k aged (log_of k before)
     → step.act ≡ Look (PostWord k) seen (Some told) → (held : IsThrottleRecord setting e k seen told)
     → (step.act ≡ Look (PostWord k) (value_of setting.layout before (PostWord k)) (Some told))
     × IsEarnedThrottle setting aged before e told k (seen / 2 ^ 32) held.function
@@ -56,12 +56,13 @@ look_earned setting aged step before told k seen e lawful marked acts held =
         held = held;
         names = refl;
         raised =
-            raised_now (aged k) held.function events
-            (marks_paid setting k (aged k) (log_of k before) (marked k known)) bit;
+            raised_now aged held.function (mark_phase setting k (log_of k before))
+            (marks_paid setting k aged (log_of k before) marked)
+            (paid_in_pass setting k aged (log_of k before) marked) bit;
       },
     )
 
-named_so : (setting : Setting) (aged : ℕ → Ages) (step : Step) (before : History) (told : Record) (k n p m : ℕ)
+named_so : (setting : Setting) (aged : Ages) (step : Step) (before : History) (told : Record) (k n p m : ℕ)
     (f g : FnId)
     → ◌≡◌ {A = Outcome} (Throttled k n f) (Throttled p m g) → TellsThrottle setting aged step before told k n f.0
     → TellsThrottle setting aged step before told p m g.0
@@ -72,10 +73,11 @@ named_so setting aged step before told k n p m f g e h =
     (subst (λ (x : FnId). TellsThrottle setting aged step before told k n x.0) parts.2 h))
 
 -- each throttle is earned
-pub earned_throttle : (setting : Setting) (aged : ℕ → Ages) (step : Step) (before : History) (told : Record)
+pub earned_throttle : (setting : Setting) (aged : Ages) (step : Step) (before : History) (told : Record)
     (feeder post : ℕ) (function : FnId)
-    → IsLawful setting.layout (step ∷ before) → AllOfBlocks setting (step ∷ before) → AllMarked setting aged before
-    → records_of_act step.act ≡ told ∷ [] → told.outcome ≡ Throttled feeder post function
+    → IsLawful setting.layout (step ∷ before) → AllOfBlocks setting (step ∷ before)
+    → AreMarked setting feeder aged (log_of feeder before) → records_of_act step.act ≡ told ∷ []
+    → told.outcome ≡ Throttled feeder post function
     → TellsThrottle setting aged step before told feeder post function.0
 earned_throttle setting aged step before told feeder post function lawful blocks marked e is =
     elim (told_by setting step before told blocks e) [
@@ -88,7 +90,11 @@ earned_throttle setting aged step before told feeder post function lawful blocks
           acts ∙ ap (λ (w : Word). Look w seen (Some told)) at in
           let earned : (step.act ≡ Look (PostWord k) (value_of setting.layout before (PostWord k)) (Some told))
           × IsEarnedThrottle setting aged before entry told k (seen / 2 ^ 32) held.function
-          = look_earned setting aged step before told k seen entry lawful marked look held in
+          = look_earned setting aged step before told k seen entry lawful
+          (subst (λ (p : ℕ). AreMarked setting p aged (log_of p before))
+          (sym (throttle_parts k (seen / 2 ^ 32) feeder post (record { 0 = held.function }) function outcome_is).0)
+          marked)
+          look held in
           named_so setting aged step before told k (seen / 2 ^ 32) feeder post
           (record { 0 = held.function }) function outcome_is
           (entry, done, found, ap (λ (r : Record). r.frame) held.told_is, earned.0, earned.1)
@@ -97,18 +103,18 @@ earned_throttle setting aged step before told feeder post function lawful blocks
     ]
 
 -- each mark is cleared by the pass that doesn't find low
-pub marks_cleared : (setting : Setting) (aged : ℕ → Ages) (past : History) (feeder f : ℕ)
-    → AllMarked setting aged past → IsFeeder setting.layout feeder
+pub marks_cleared : (setting : Setting) (aged : Ages) (past : History) (feeder f : ℕ)
+    → AreMarked setting feeder aged (log_of feeder past)
     → Clears f (mark_events setting feeder (log_of feeder past))
-marks_cleared setting aged past feeder f marked known =
-    cleared (aged feeder) f (mark_events setting feeder (log_of feeder past))
-    (marks_paid setting feeder (aged feeder) (log_of feeder past) (marked feeder known))
+marks_cleared setting aged past feeder f marked =
+    cleared aged f (mark_events setting feeder (log_of feeder past))
+    (marks_paid setting feeder aged (log_of feeder past) marked)
 
-pub marks_cleared_at_once : (setting : Setting) (aged : ℕ → Ages) (past : History) (feeder f : ℕ)
-    → AllMarked setting aged past → IsFeeder setting.layout feeder
+pub marks_cleared_at_once : (setting : Setting) (aged : Ages) (past : History) (feeder f : ℕ)
+    → AreMarked setting feeder aged (log_of feeder past)
     → ClearsAtOnce setting feeder f (log_of feeder past)
-marks_cleared_at_once setting aged past feeder f marked known =
-    cleared_at_once setting feeder (aged feeder) f (log_of feeder past) (marked feeder known)
+marks_cleared_at_once setting aged past feeder f marked =
+    cleared_at_once setting feeder aged f (log_of feeder past) marked
 
 -- the word has the last post
 pub word_posted : (setting : Setting) (past : History) (feeder : ℕ)

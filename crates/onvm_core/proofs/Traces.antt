@@ -43,8 +43,7 @@ use Rattle.onvm_core.proofs.Trails.{Enters, Handled, entered_traced, entry_added
 
 abbrev Moved : Option (ℕ × Load) → BufId → Parcel → Type 0
 Moved own b parcel =
-    (was : Parcel) × (own ≡ Some (b.0, Loaded was)) × (parcel.frame ≡ was.frame) × (parcel.trail ≡ was.trail)
-    × (parcel.packet ≡ was.packet)
+    (was : Parcel) × (cursor : ℕ) × (own ≡ Some (b.0, Loaded was)) × (parcel ≡ with_cursor cursor was)
 
 abbrev ComesFrom : Setting → RoleKind → Option (ℕ × Load) → Log → RingId → BufId → Parcel → Type 0
 ComesFrom setting kind own log ring b parcel =
@@ -80,10 +79,9 @@ comes_send : (setting : Setting) (feeder : ℕ) (phase : SendPhase) (own : Optio
 comes_send setting feeder Free own ring b parcel h may = absurd may
 comes_send setting feeder (Sending hand) own ring b parcel h may = (
   hand.parcel,
+  may.1.0,
   h ∙ ap (λ (n : ℕ). Some (n, Loaded hand.parcel)) (sym may.0),
-  ap (λ (p : Parcel). p.frame) may.1.2,
-  ap (λ (p : Parcel). p.trail) may.1.2,
-  ap (λ (p : Parcel). p.packet) may.1.2,
+  may.1.2,
 )
 comes_send setting feeder (TurnsBack hand r) own ring b parcel h may = absurd may
 
@@ -185,8 +183,8 @@ pushed_traced setting step before ring b parcel acts lawful blocks few all =
           (all b.0 made.hand.parcel had.has)
       | inr (inr moved) ↦
           let had : HasLoad setting before step.role b.0 (Loaded moved.0) =
-          own_load_is setting before lawful.1 step.role b.0 (Loaded moved.0) moved.1 in
-          moved_traced setting (step ∷ before) moved.0 parcel moved.2 moved.3 moved.4
+          own_load_is setting before lawful.1 step.role b.0 (Loaded moved.0) moved.2 in
+          moved_traced setting (step ∷ before) moved.0 parcel moved.1 moved.3
           (traced_on setting step before moved.0 (all b.0 moved.0 had.has))
     ]
 
@@ -257,27 +255,21 @@ given_receive setting port e (Took done buf) b PoolEmpty parcel found may = absu
 given_receive setting port e (Barred done buf r) b outcome parcel found may = (e, port, done, found, may.2)
 given_receive setting port e phase b outcome parcel found may = absurd may
 
-was_moved : (own : Option (ℕ × Load)) (hand : Hand) (b : BufId) (parcel after : Parcel)
-    → own ≡ Some (hand.buf, Loaded hand.parcel) → b.0 ≡ hand.buf → parcel ≡ after → after.frame ≡ hand.parcel.frame
-    → after.trail ≡ hand.parcel.trail → after.packet ≡ hand.parcel.packet
+was_moved : (own : Option (ℕ × Load)) (hand : Hand) (b : BufId) (parcel : Parcel) (cursor : ℕ)
+    → own ≡ Some (hand.buf, Loaded hand.parcel) → b.0 ≡ hand.buf → parcel ≡ with_cursor cursor hand.parcel
     → Moved own b parcel
-was_moved own hand b parcel after h same is frame trail packet = (
-  hand.parcel,
-  h ∙ ap (λ (n : ℕ). Some (n, Loaded hand.parcel)) (sym same),
-  ap (λ (p : Parcel). p.frame) is ∙ frame,
-  ap (λ (p : Parcel). p.trail) is ∙ trail,
-  ap (λ (p : Parcel). p.packet) is ∙ packet,
-)
+was_moved own hand b parcel cursor h same is =
+    (hand.parcel, cursor, h ∙ ap (λ (n : ℕ). Some (n, Loaded hand.parcel)) (sym same), is)
 
 given_send : (setting : Setting) (feeder : ℕ) (phase : SendPhase) (own : Option (ℕ × Load)) (b : BufId)
     (outcome : Outcome) (parcel : Parcel) → HasSend own phase → MaySend setting feeder phase (Give b outcome parcel)
     → Moved own b parcel
 given_send setting feeder (Sending hand) own b (Sent q) parcel h may =
-    was_moved own hand b parcel hand.parcel h may.0 may.2 refl refl refl
+    was_moved own hand b parcel hand.parcel.cursor h may.0 may.2
 given_send setting feeder (Sending hand) own b (Dropped f why) parcel h may =
-    was_moved own hand b parcel hand.parcel h may.0 may.3 refl refl refl
+    was_moved own hand b parcel hand.parcel.cursor h may.0 may.3
 given_send setting feeder (TurnsBack hand r) own b outcome parcel h may =
-    was_moved own hand b parcel (with_cursor may.2.0 hand.parcel) h may.0 may.2.2 refl refl refl
+    was_moved own hand b parcel may.2.0 h may.0 may.2.2
 given_send setting feeder phase own b outcome parcel h may = absurd may
 
 given_from : (setting : Setting) (role : ℕ) (kind : RoleKind) (log : Log) (b : BufId) (outcome : Outcome)
@@ -307,8 +299,8 @@ given_traced setting step before b outcome parcel acts lawful blocks all =
       | inl enters ↦ entered_traced setting (step ∷ before) parcel enters
       | inr moved ↦
           let had : HasLoad setting before step.role b.0 (Loaded moved.0) =
-          own_load_is setting before lawful step.role b.0 (Loaded moved.0) moved.1 in
-          moved_traced setting (step ∷ before) moved.0 parcel moved.2 moved.3 moved.4
+          own_load_is setting before lawful step.role b.0 (Loaded moved.0) moved.2 in
+          moved_traced setting (step ∷ before) moved.0 parcel moved.1 moved.3
           (traced_on setting step before moved.0 (all b.0 moved.0 had.has))
     ]
 

@@ -13,10 +13,10 @@ use Rattle.onvm_core.specs.declared.step.Act.TheVariants.{Push}
 use Rattle.onvm_core.specs.declared.step.Step.{Step}
 use Rattle.onvm_core.specs.Layouts.{core_role}
 use Rattle.onvm_core.specs.History.{History}
-use Rattle.onvm_core.specs.Logs.{Setting, Log, log_of, Hand, entry_after, entry_parcel, IsHandled, last_crumb}
+use Rattle.onvm_core.specs.Logs.{Setting, Log, log_of, Hand, entry_after, entry_parcel, IsHandled, last_crumb, with_cursor}
 use Rattle.onvm_core.specs.Handling.{core_hand, crumb_place}
 use Rattle.onvm_core.specs.Frames.{Load}
-use Rattle.onvm_core.specs.Journals.{Handling, LeadsTo, IsTraced, journal, journal_of, handlings, verdict_in, last_popped_parcel}
+use Rattle.onvm_core.specs.Journals.{Handling, LeadsTo, IsMadeOf, IsTraced, journal, journal_of, handlings, verdict_in, last_popped_parcel}
 use Rattle.onvm_base.specs.declared.ids.RingId.TheVariants.{Output}
 use Rattle.onvm_core.specs.declared.entry.Entry.{Entry}
 use Rattle.onvm_core.specs.Frames.Load.{Loaded}
@@ -80,7 +80,7 @@ traced_on setting step before parcel traced = record {
   port = traced.port;
   done = traced.done;
   captured = traced.captured;
-  frame = traced.frame;
+  made = traced.made;
   leads =
       leads_more (journal_of setting before)
       (journal_of setting (step ∷ before)) parcel.frame traced.entry.packet parcel.trail parcel.packet
@@ -88,6 +88,16 @@ traced_on setting step before parcel traced = record {
 }
 
 -- A parcel as it enters, moves on and is handled
+
+pub made_on : (first was parcel : Parcel) → IsMadeOf first was → IsMadeOf was parcel → IsMadeOf first parcel
+made_on first was parcel earlier later =
+    later
+    ∙ ap (λ (p : Parcel). record p { packet = parcel.packet; cursor = parcel.cursor; trail = parcel.trail }) earlier
+
+-- the parcel of a frame has the frame's number
+pub frame_of_traced : (setting : Setting) (past : History) (parcel : Parcel) (traced : IsTraced setting past parcel)
+    → traced.entry.frame ≡ parcel.frame
+frame_of_traced setting past parcel traced = sym (ap (λ (p : Parcel). p.frame) traced.made)
 
 abbrev pub Enters : Setting → Parcel → Type 0
 Enters setting parcel =
@@ -105,16 +115,17 @@ pub record Handled (own : Option (ℕ × Load)) (log : Log) (ring : RingId) (b :
 -- a trail with one more crumb, whose entry the journal has
 pub extended : (setting : Setting) (past : History) (was parcel : Parcel) (crumb : Crumb) (h : Handling)
     → IsTraced setting past was → slice_get (journal_of setting past crumb.function) crumb.place ≡ Some h
-    → h.before ≡ was → h.verdict ≡ crumb.verdict → parcel.packet ≡ h.bytes → parcel.frame ≡ was.frame
+    → h.before ≡ was → h.verdict ≡ crumb.verdict → parcel.packet ≡ h.bytes → IsMadeOf was parcel
     → parcel.trail ≡ was.trail ++ crumb ∷ []
     → IsTraced setting past parcel
-extended setting past was parcel crumb h traced found of verdict bytes frame trail = record {
+extended setting past was parcel crumb h traced found of verdict bytes made trail = record {
   entry = traced.entry;
   port = traced.port;
   done = traced.done;
   captured = traced.captured;
-  frame = traced.frame ∙ sym frame;
+  made = made_on (entry_parcel traced.entry) was parcel traced.made made;
   leads =
+      let frame : parcel.frame ≡ was.frame = ap (λ (p : Parcel). p.frame) made in
       rw (trail, frame) (leads_on
       (journal_of setting past) was.frame traced.entry.packet was.trail was.packet parcel.packet crumb h traced.leads
       found
@@ -139,6 +150,15 @@ pub verdict_added : (trail before : List Crumb) (crumb : Crumb) → trail ≡ be
 verdict_added trail before crumb e =
     ap (λ (t : List Crumb). verdict_in (last_crumb t)) e ∙ ap verdict_in (last_of_push before crumb)
 
+handled_made : (f : FnId) (n : ℕ) (was parcel : Parcel) → IsHandled f n was parcel → IsMadeOf was parcel
+handled_made f n was parcel handled =
+    let cursor : parcel.cursor ≡ was.cursor = ap (λ (p : Parcel). p.cursor) handled.same in
+    let trail : parcel.trail ≡ was.trail ++ record { function = f; place = n; verdict = handled.verdict } ∷ [] =
+    ap (λ (p : Parcel). p.trail) handled.same in
+    handled.same
+    ∙ ap (λ (t : List Crumb). record was { packet = parcel.packet; trail = t }) (sym trail)
+    ∙ ap (λ (c : ℕ). record was { packet = parcel.packet; cursor = c; trail = parcel.trail }) (sym cursor)
+
 -- the parcel that a function pushed is traced where the popped one was
 pub handled_traced : (setting : Setting) (step : Step) (before : History) (f : FnId) (hand : Hand) (b : BufId)
     (parcel : Parcel) (n : ℕ)
@@ -160,20 +180,20 @@ handled_traced setting step before f hand b parcel n acts role has long handled 
     (verdict_added parcel.trail hand.parcel.trail (record { function = f; place = n; verdict = handled.verdict })
     (ap (λ (p : Parcel). p.trail) handled.same))
     refl
-    (ap (λ (p : Parcel). p.frame) handled.same)
+    (handled_made f n hand.parcel parcel handled)
     (ap (λ (p : Parcel). p.trail) handled.same)
 
-pub moved_traced : (setting : Setting) (past : History) (was parcel : Parcel)
-    → parcel.frame ≡ was.frame → parcel.trail ≡ was.trail → parcel.packet ≡ was.packet → IsTraced setting past was
+pub moved_traced : (setting : Setting) (past : History) (was parcel : Parcel) (cursor : ℕ)
+    → parcel ≡ with_cursor cursor was → IsTraced setting past was
     → IsTraced setting past parcel
-moved_traced setting past was parcel frame trail packet traced = record {
+moved_traced setting past was parcel cursor moved traced = subst (IsTraced setting past) (sym moved) (record {
   entry = traced.entry;
   port = traced.port;
   done = traced.done;
   captured = traced.captured;
-  frame = traced.frame ∙ sym frame;
-  leads = rw (frame, trail, packet) traced.leads;
-}
+  made = ap (with_cursor cursor) traced.made;
+  leads = traced.leads;
+})
 
 pub entered_traced : (setting : Setting) (past : History) (parcel : Parcel) → Enters setting parcel
     → IsTraced setting past parcel
@@ -182,6 +202,6 @@ entered_traced setting past parcel enters = record {
   port = enters.1;
   done = enters.2;
   captured = enters.3;
-  frame = sym (ap (λ (p : Parcel). p.frame) enters.4);
+  made = subst (IsMadeOf (entry_parcel enters.0)) (sym enters.4) refl;
   leads = rw enters.4 refl;
 }

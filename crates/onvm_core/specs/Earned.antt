@@ -21,42 +21,48 @@ use Rattle.onvm_core.specs.Words.{value_of}
 use Rattle.onvm_core.specs.Logs.{Setting, Log, log_of, last_crumb}
 use Rattle.onvm_core.specs.Receiving.{IsThrottleRecord}
 use Rattle.onvm_core.specs.Sending.{IsNext}
-use Rattle.onvm_core.specs.Marks.{MarkEvent, MarkEvents, Pass, Ages, IsPaid, IsResting, finds, has_bit, last_post, mark_events, mark_phase}
+use Rattle.onvm_core.specs.Marks.{MarkEvent, MarkEvents, MarkPhase, Pass, Ages, IsPaid, pass_count, IsResting, finds, has_bit, last_post, mark_events, mark_phase}
 use Rattle.onvm_core.specs.Marks.MarkEvent.{Passed, Posted}
+use Rattle.onvm_core.specs.Marks.MarkPhase.{AtRest, InPass}
 
 -- Throttles
 
 -- the function's mark is raised and not cleared: of the run of last posts that have its bit, the pass of the first
--- found high and low, and each pass from that one on found low
-pub data IsRaised (f : ℕ) : MarkEvents → Type 0 where
+-- found high and low in time, and each pass from that one on found low
+pub data IsRaised (aged : Ages) (f : ℕ) : MarkEvents → Type 0 where
   -- the first post of the run, and its pass
   ByPost : (value : ℕ) (pass : Pass) (before : MarkEvents)
       → has_bit value f ≡ true → has_bit (last_post before) f ≡ false
-      → finds true f pass ≡ true → finds false f pass ≡ true
-      → IsRaised f (Posted value ∷ Passed pass ∷ before)
-  ByAnotherPost : (value : ℕ) (before : MarkEvents) → has_bit value f ≡ true → IsRaised f before
-      → IsRaised f (Posted value ∷ before)
-  ByPass : (pass : Pass) (before : MarkEvents) → finds false f pass ≡ true → IsRaised f before
-      → IsRaised f (Passed pass ∷ before)
+      → finds true f pass ≡ true → finds false f pass ≡ true → aged (pass_count before) f ≡ true
+      → IsRaised aged f (Posted value ∷ Passed pass ∷ before)
+  ByAnotherPost : (value : ℕ) (before : MarkEvents) → has_bit value f ≡ true → IsRaised aged f before
+      → IsRaised aged f (Posted value ∷ before)
+  ByPass : (pass : Pass) (before : MarkEvents) → finds false f pass ≡ true → IsRaised aged f before
+      → IsRaised aged f (Passed pass ∷ before)
 
--- the same but for a pass that the feeder is still in: its looks aren't all made, or they are and its post is due
-abbrev pub IsRaisedUpToNow : Ages → ℕ → MarkEvents → Type 0
-IsRaisedUpToNow aged f events =
-    IsRaised f events
-    ⊎ ((pass : Pass) × (before : MarkEvents) × (events ≡ Passed pass ∷ before)
-    × (¬ IsPaid aged events)
-    × IsRaised f before)
+-- the newest pass's post is due, and the mark was raised before this pass
+pub record IsRaisedBeforeDue (aged : Ages) (f : ℕ) (events : MarkEvents) : Type 0 where
+  pub pass : Pass
+  pub before : MarkEvents
+  pub newest : events ≡ Passed pass ∷ before
+  pub due : ¬ IsPaid aged events
+  pub raised : IsRaised aged f before
+
+-- the same up to now, but for a pass that the feeder is in: its looks aren't all made, or they are and its post is due
+abbrev pub IsRaisedUpToNow : Ages → ℕ → MarkPhase → Type 0
+IsRaisedUpToNow aged f (InPass next later found events) = IsRaised aged f events
+IsRaisedUpToNow aged f (AtRest events) = IsRaised aged f events ⊎ IsRaisedBeforeDue aged f events
 
 -- a frame that a look recorded as throttled after these steps: the feeder's word had this post, with the bit of this
 -- function, the lowest of the frame's chain, and the function's mark was raised and not cleared
-pub record IsEarnedThrottle (setting : Setting) (aged : ℕ → Ages) (past : History) (e : Entry) (told : Record)
+pub record IsEarnedThrottle (setting : Setting) (aged : Ages) (past : History) (e : Entry) (told : Record)
     (feeder post function : ℕ) : Type 0 where
   pub seen : ℕ
   pub shown : value_of setting.layout past (PostWord feeder) ≡ seen
   pub number : seen / 2 ^ 32 ≡ post
   pub held : IsThrottleRecord setting e feeder seen told
   pub names : held.function ≡ function
-  pub raised : IsRaisedUpToNow (aged feeder) function (mark_events setting feeder (log_of feeder past))
+  pub raised : IsRaisedUpToNow aged function (mark_phase setting feeder (log_of feeder past))
 
 -- the newest pass didn't find low, though the last post has the bit
 abbrev pub IsDue : ℕ → MarkEvents → Type 0

@@ -1,16 +1,18 @@
 -- Which frame is in a buffer, and which frames are on their way or recorded.
-use Rattle.std.specs.Prelude.{ℕ, ◌≡◌, ◌+◌, ◌*◌, ◌<◌, Bool, false, ◌==◌, ◌&&◌, nat_lt, nat_le, if◌then◌else◌, [], ◌∷◌, length, Option, Some, None}
+use Rattle.std.specs.Prelude.{ℕ, ◌≡◌, ◌≢◌, ◌+◌, ◌*◌, ◌<◌, Bool, false, ◌==◌, ◌&&◌, nat_lt, nat_le, if◌then◌else◌, [], ◌∷◌, length, Option, Some, None}
 use Rattle.onvm_base.specs.declared.ids.FrameId.{FrameId}
+use Rattle.onvm_core.specs.declared.entry.Entry.{Entry}
 use Rattle.onvm_core.specs.declared.parcel.Parcel.{Parcel}
 use Rattle.onvm_core.specs.declared.step.Item.{Item}
 use Rattle.onvm_core.specs.declared.step.Item.TheVariants.{Buffer, Number}
 use Rattle.onvm_core.specs.declared.step.Act.{Act}
 use Rattle.onvm_core.specs.declared.step.Act.TheVariants.{Take, Give, Push, Pop}
 use Rattle.onvm_core.specs.declared.place.Place.TheVariants.{Pool}
+use Rattle.onvm_core.specs.Layouts.{IsBuffer}
 use Rattle.onvm_core.specs.History.{History, place_of}
 use Rattle.onvm_core.specs.Records.{records_in}
 use Rattle.onvm_core.specs.Places.{numbers_below, how_many}
-use Rattle.onvm_core.specs.Logs.{Setting, Log, log_of, entries_of_port}
+use Rattle.onvm_core.specs.Logs.{Setting, Log, log_of, entries_of_port, entry_after}
 use Rattle.onvm_core.specs.Receiving.{receive_phase, ReceivePhase, done_count}
 use Rattle.onvm_core.specs.Receiving.ReceivePhase.{Between, Asks, Seeks, Sees, Took, Barred}
 
@@ -86,4 +88,15 @@ AllEnded setting past =
 
 -- every buffer is in the pool
 abbrev pub AllInPool : Setting → History → Type 0
-AllInPool setting past = (buf : ℕ) → place_of buf past ≡ Pool
+AllInPool setting past = (buf : ℕ) → IsBuffer setting.layout buf → place_of buf past ≡ Pool
+
+-- the frame is none of the setting's
+abbrev pub IsNoFrame : Setting → FrameId → Type 0
+IsNoFrame setting frame =
+    (port done : ℕ) (e : Entry) → port < setting.layout.ports → entry_after setting port done ≡ Some e → e.frame ≢ frame
+
+-- each frame has one record, and no other has one
+pub record HasOneRecordEach (setting : Setting) (past : History) : Type 0 where
+  pub each : (port done : ℕ) (e : Entry) → port < setting.layout.ports → entry_after setting port done ≡ Some e
+      → record_count e.frame past ≡ 1
+  pub no_other : (frame : FrameId) → IsNoFrame setting frame → record_count frame past ≡ 0

@@ -14,7 +14,7 @@ use Rattle.onvm_core.specs.declared.step.Act.{Act}
 use Rattle.onvm_core.specs.declared.step.Act.TheVariants.{Give, Push, Pop}
 use Rattle.onvm_core.specs.Layouts.{core_role}
 use Rattle.onvm_core.specs.History.{History}
-use Rattle.onvm_core.specs.Logs.{Setting, Log, log_of, last_crumb, entry_after}
+use Rattle.onvm_core.specs.Logs.{Setting, Log, log_of, last_crumb, entry_after, entry_parcel}
 
 -- that a function handled a parcel: the parcel as it was popped, the verdict, and the bytes that were pushed
 pub record Handling : Type 0 where
@@ -71,13 +71,22 @@ LeadsTo journals frame input (crumb ∷ crumbs) output =
     (h : Handling) × (slice_get (journals crumb.function) crumb.place ≡ Some h) × (h.before.frame ≡ frame)
     × (h.verdict ≡ crumb.verdict) × (h.before.packet ≡ input) × (LeadsTo journals frame h.bytes crumbs output)
 
--- the parcel's crumbs lead from the captured bytes of its frame to its bytes
+-- a parcel is what functions and moves make of another: its bytes, cursor and trail may differ, and nothing else
+abbrev pub IsMadeOf : (was parcel : Parcel) → Type 0
+IsMadeOf was parcel =
+    parcel ≡ record was {
+      packet = parcel.packet;
+      cursor = parcel.cursor;
+      trail = parcel.trail;
+    }
+
+-- the parcel is made of its frame's as it entered, and its crumbs lead from the captured bytes to its own
 pub record IsTraced (setting : Setting) (past : History) (parcel : Parcel) : Type 0 where
   pub entry : Entry
   pub port : ℕ
   pub done : ℕ
   pub captured : entry_after setting port done ≡ Some entry
-  pub frame : entry.frame ≡ parcel.frame
+  pub made : IsMadeOf (entry_parcel entry) parcel
   pub leads : LeadsTo (journal_of setting past) parcel.frame entry.packet parcel.trail parcel.packet
 
 -- the act pushes, pops or gives this parcel

@@ -43,6 +43,10 @@ tick_role layout = layout.ports + layout.transmit + layout.cores
 abbrev pub first_role : Layout → ℕ
 first_role layout = layout.ports + layout.transmit + layout.cores + 1
 
+-- how many roles push on lanes
+abbrev pub feeder_count : Layout → ℕ
+feeder_count layout = layout.ports + layout.transmit
+
 -- a feeder is a receive or a transmit role
 abbrev pub IsFeeder : Layout → ℕ → Type 0
 IsFeeder layout role = role < layout.ports + layout.transmit

@@ -16,4 +16,5 @@ pub mod Receiving
 pub mod Records
 pub mod Samples
 pub mod Sending
+pub mod Settings
 pub mod Words

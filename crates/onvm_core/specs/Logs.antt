@@ -36,10 +36,6 @@ pub record Setting : Type 0 where
   pub plan : Plan
   pub entries : List Entry
 
--- how many roles push on lanes
-abbrev pub feeder_count : Setting → ℕ
-feeder_count setting = setting.layout.ports + setting.layout.transmit
-
 -- Frames
 
 abbrev pub entries_of_port : ℕ → List Entry → List Entry

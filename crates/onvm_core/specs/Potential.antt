@@ -7,11 +7,13 @@ use Rattle.onvm_core.specs.declared.layout.Layout.{Layout}
 use Rattle.onvm_core.specs.declared.parcel.Parcel.{Parcel}
 use Rattle.onvm_core.specs.declared.place.Place.{Place}
 use Rattle.onvm_core.specs.declared.place.Place.TheVariants.{Pool, Ring, Role}
+use Rattle.onvm_core.specs.declared.step.Act.{Act}
+use Rattle.onvm_core.specs.declared.step.Act.TheVariants.{Push}
 use Rattle.onvm_core.specs.declared.step.Item.{Item}
 use Rattle.onvm_core.specs.declared.step.Item.TheVariants.{Buffer, Number}
-use Rattle.onvm_core.specs.Layouts.{producer, consumer}
+use Rattle.onvm_core.specs.Layouts.{producer, consumer, feeder_count}
 use Rattle.onvm_core.specs.History.{History, place_of, pushes, pops}
-use Rattle.onvm_core.specs.Logs.{Setting, Log, Hand, feeder_count, log_of, entries_of_port}
+use Rattle.onvm_core.specs.Logs.{Setting, Log, Hand, log_of, entries_of_port}
 use Rattle.onvm_core.specs.Receiving.{receive_phase, done_count}
 use Rattle.onvm_core.specs.Handling.{core_hand}
 use Rattle.onvm_core.specs.Sending.{SendPhase, send_phase}
@@ -50,6 +52,16 @@ abbrev pub load_potential : Layout → Place → Option Load → ℕ
 load_potential layout there None = 0
 load_potential layout there (Some (Fresh frame)) = fresh_potential
 load_potential layout there (Some (Loaded parcel)) = place_potential layout there (hops_left parcel)
+
+-- how many items an act pushes on output rings: each lowers the potential by 1 at least
+abbrev pub outputs_on : RingId → ℕ
+outputs_on (Lane f p) = 0
+outputs_on (Output f) = 1
+outputs_on (Mail f) = 0
+
+abbrev pub outputs_by : Act → ℕ
+outputs_by (Push ring (Buffer b parcel)) = outputs_on ring
+outputs_by _ = 0
 
 -- how many frames of a port have neither a take nor a record
 abbrev pub waiting_count : Setting → History → ℕ → ℕ
@@ -96,7 +108,7 @@ ring_potential setting logs ring = items_potential setting.layout ring (content_
 -- what stands in the rings of a function
 abbrev pub function_potential : Setting → (ℕ → Log) → ℕ → ℕ
 function_potential setting logs f =
-    sum_below (λ feeder. ring_potential setting logs (Lane (record { 0 = f }) feeder)) (feeder_count setting)
+    sum_below (λ feeder. ring_potential setting logs (Lane (record { 0 = f }) feeder)) (feeder_count setting.layout)
     + ring_potential setting logs (Output (record { 0 = f }))
 
 abbrev pub core_potential : Option Hand → ℕ

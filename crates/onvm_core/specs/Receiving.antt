@@ -15,8 +15,8 @@ use Rattle.onvm_core.specs.declared.layout.Word.TheVariants.{Pool as PoolWord, C
 use Rattle.onvm_core.specs.declared.step.Item.TheVariants.{Buffer}
 use Rattle.onvm_core.specs.declared.step.Act.{Act}
 use Rattle.onvm_core.specs.declared.step.Act.TheVariants.{Take, Give, Push, Full, Look, Post}
-use Rattle.onvm_core.specs.Layouts.{IsBuffer, bit_of, word_of}
-use Rattle.onvm_core.specs.Logs.{Log, Setting, entry_parcel, feeder_count, entry_after}
+use Rattle.onvm_core.specs.Layouts.{IsBuffer, bit_of, word_of, feeder_count}
+use Rattle.onvm_core.specs.Logs.{Log, Setting, entry_parcel, entry_after}
 
 -- where a receive role stands: so many blocks have ended, and in the next one ..
 pub data ReceivePhase : Type 0 where
@@ -34,7 +34,7 @@ pub data ReceivePhase : Type 0 where
 
 -- a look at a post word, and at a word of the part: with a record the block ends
 abbrev pub phase_after_ask : Setting → (done k : ℕ) → Option Record → ReceivePhase
-phase_after_ask setting done k None = if k + 1 == feeder_count setting then Seeks done 0 else Asks done (k + 1)
+phase_after_ask setting done k None = if k + 1 == feeder_count setting.layout then Seeks done 0 else Asks done (k + 1)
 phase_after_ask setting done k (Some told) = Between (done + 1)
 
 abbrev pub phase_after_seek : (done k seen : ℕ) → Option Record → ReceivePhase

@@ -6,6 +6,7 @@ use Rattle.onvm_base.specs.declared.outcome.Record.{Record}
 use Rattle.onvm_core.specs.declared.step.Act.{Act}
 use Rattle.onvm_core.specs.declared.step.Act.TheVariants.{Give, Look}
 use Rattle.onvm_core.specs.History.{History}
+use Rattle.onvm_core.specs.Logs.{Log}
 
 -- what an act records
 abbrev pub records_of_act : Act → List Record
@@ -17,6 +18,15 @@ records_of_act _ = []
 abbrev pub records_in : History → List Record
 records_in [] = []
 records_in (step ∷ before) = records_in before ++ records_of_act step.act
+
+-- what acts tell, the oldest first: those of a history, and those of a role's log
+abbrev pub gathered : {A : Type 0} → (Act → List A) → History → List A
+gathered tell [] = []
+gathered tell (step ∷ before) = gathered tell before ++ tell step.act
+
+abbrev pub gathered_of_log : {A : Type 0} → (Act → List A) → Log → List A
+gathered_of_log tell [] = []
+gathered_of_log tell (act ∷ before) = gathered_of_log tell before ++ tell act
 
 -- what an act sends
 abbrev pub sent_frames_of_act : Act → List SentFrame

@@ -1,17 +1,16 @@
 -- Blocks keep a receive role's pace: a marks pass stands before them.
-use Rattle.std.proofs.Common.{◌≡◌, ℕ, suc, zero, ◌+◌, ◌<◌, ◌≤◌, ◌⊎◌, inl, inr, Bool, true, false, if◌then◌else◌, List, [], ◌∷◌, ◌++◌, sym, ap, ◌∙◌, subst, refl, arith, Option, Some, None}
+use Rattle.std.proofs.Common.{◌≡◌, ℕ, ◌+◌, ◌<◌, ◌≤◌, ◌⊎◌, inl, inr, Bool, true, false, if◌then◌else◌, List, [], ◌∷◌, ◌++◌, sym, ap, ◌∙◌, subst, refl, arith, Option, Some, None}
 use Rattle.std.specs.Prelude.{◌==◌}
 use Rattle.std.proofs.lemmas.Bool.{cases_Bool}
 use Rattle.onvm_base.specs.declared.outcome.Record.{Record}
 use Rattle.onvm_core.specs.declared.layout.Word.TheVariants.{Pool as PoolWord, Post as PostWord}
 use Rattle.onvm_core.specs.declared.step.Act.{Act}
-use Rattle.onvm_core.specs.declared.step.Act.TheVariants.{Give, Push, Full, Look, Take}
-use Rattle.onvm_core.specs.Logs.{Log, Setting, feeder_count}
+use Rattle.onvm_core.specs.Logs.{Log, Setting}
 use Rattle.onvm_core.specs.Places.{one_if}
 use Rattle.onvm_core.specs.Marks.{Ages, IsPaid, IsResting, MarkLook, MarkPhase, events_in, looks_of_pass, mark_phase}
 use Rattle.onvm_core.specs.Receiving.{ReceivePhase, done_count, phase_after_ask, phase_after_seek, receive_after, receive_phase}
 use Rattle.onvm_core.specs.Receiving.ReceivePhase.{Asks, Barred, Between, Seeks, Sees, Took}
-use Rattle.onvm_core.specs.Pace.{IsPaced, IsPacedAt, begins_block, blocks_since_pass, pops_since_pass, since_thought_pass}
+use Rattle.onvm_core.specs.Pace.{IsPaced, begins_block, blocks_since_pass, pops_since_pass, since_thought_pass}
 use Rattle.onvm_promises.specs.Acts.{AreBlockSteps, IsBlockStep}
 use Rattle.onvm_promises.specs.Acts.IsBlockStep.{AnAsk, ASeek, ATake, APush, AFull, AGive}
 use Rattle.onvm_promises.specs.Follows.{MayReceiveIn, ReceivesFrom, receive_phase_from}
@@ -19,8 +18,10 @@ use Rattle.onvm_promises.specs.Passes.{IsMarksPass}
 use Rattle.onvm_promises.specs.Rests.{IsSettledFeeder}
 use Rattle.onvm_promises.specs.Times.{passes_in}
 use Rattle.onvm_promises.proofs.Following.{receive_phase_is}
-use Rattle.onvm_promises.proofs.Pacing.{IsReset, blocks_reset, pops_within}
-use Rattle.onvm_promises.proofs.Settling.{blocks_unmarked, mark_phase_same, marked_still}
+use Rattle.onvm_promises.proofs.Pacing.{blocks_reset, pops_within}
+use Rattle.onvm_promises.proofs.Settling.{mark_phase_same, marked_still}
+use Rattle.onvm_promises.proofs.Unmarked.{blocks_unmarked}
+use Rattle.onvm_core.specs.Layouts.{feeder_count}
 
 -- How many blocks a stretch begins
 
@@ -48,7 +49,7 @@ asked : (setting : Setting) (done k : ℕ) (told : Option Record)
     → done_count (phase_after_ask setting done k told) + open_block (phase_after_ask setting done k told) ≡ done + 1
 asked setting done k (Some told) = omega arith
 asked setting done k None =
-    elim (cases_Bool (k + 1 == feeder_count setting)) [
+    elim (cases_Bool (k + 1 == feeder_count setting.layout)) [
       | inl met ↦ rw met (omega arith)
       | inr unmet ↦ rw unmet (omega arith)
     ]
@@ -117,7 +118,8 @@ begun_is setting phase (act ∷ added) steps =
 
 -- Pace
 
--- no more blocks were begun since the latest marks pass than in this stretch; or a marks pass leaves no trace yet, and so
+-- no more blocks were begun since the latest marks pass than in this stretch; or a marks pass leaves no trace yet,
+-- and so
 -- counts as standing anywhere
 abbrev pub IsInBlockPace : Setting → (port : ℕ) → (added log : Log) → Type 0
 IsInBlockPace setting port added log =

@@ -73,7 +73,14 @@ even_pass setting f before added hand has sample even now =
     let no_earlier : how_many (is_weight_look f) has.earlier ≡ 0 =
     omega (arith, counts, weights_fewer f has.earlier) in
     let no_later : how_many (is_weight_look f) rest ≡ 0 =
-    omega (arith, counts, weights_fewer f has.later, has.once, how_many-append (is_weight_look f) has.later has.service) in
+    omega (
+      arith,
+      counts,
+      weights_fewer f has.later,
+      has.once,
+      how_many-append
+          (is_weight_look f) has.later has.service,
+    ) in
     let clean : how_many (is_push_on (Output f)) has.earlier + how_many (is_mailed f) has.earlier ≡ 0 =
     has.behind hand in
     let whole : added ++ before ≡ rest ++ (look ∷ (has.earlier ++ before)) =

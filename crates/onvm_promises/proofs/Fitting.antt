@@ -10,7 +10,8 @@ use Rattle.onvm_core.proofs.Lists.{get_front}
 use Rattle.onvm_promises.specs.Roles.{Fits}
 
 -- fewer settings fit more frames
-pub fits_earlier : (layout : Layout) (plan : Plan) (port : ℕ) (pulled more : List Entry) (ended : Bool) (setting : Setting)
+pub fits_earlier : (layout : Layout) (plan : Plan) (port : ℕ) (pulled more : List Entry) (ended : Bool)
+    (setting : Setting)
     → Fits layout plan port (pulled ++ more) ended setting
     → Fits layout plan port pulled false setting
 fits_earlier layout plan port pulled more ended setting fits =
@@ -22,7 +23,8 @@ fits_earlier layout plan port pulled more ended setting fits =
     }
 
 -- a frame that was pulled is the setting's
-pub frame_fits : (layout : Layout) (plan : Plan) (port done : ℕ) (pulled : List Entry) (ended : Bool) (setting : Setting)
+pub frame_fits : (layout : Layout) (plan : Plan) (port done : ℕ) (pulled : List Entry) (ended : Bool)
+    (setting : Setting)
     (e : Entry)
     → Fits layout plan port pulled ended setting → slice_get pulled done ≡ Some e
     → entry_after setting port done ≡ Some e
@@ -30,7 +32,8 @@ frame_fits layout plan port done pulled ended setting e fits found =
     subst (λ (es : List Entry). slice_get es done ≡ Some e) fits.front.1 (get_front pulled fits.front.0 done e found)
 
 -- a burst that was pulled, or all that were left, is the same for each setting
-pub count_fits : (layout : Layout) (plan : Plan) (port upto : ℕ) (pulled : List Entry) (ended : Bool) (setting : Setting)
+pub count_fits : (layout : Layout) (plan : Plan) (port upto : ℕ) (pulled : List Entry) (ended : Bool)
+    (setting : Setting)
     → Fits layout plan port pulled ended setting → (ended ≡ false → upto ≤ length pulled)
     → min upto (length (entries_of_port port setting.entries)) ≡ min upto (length pulled)
 count_fits layout plan port upto pulled ended setting fits enough =

@@ -1,7 +1,6 @@
 -- The pattern of a stretch goes on the pattern before it.
-use Rattle.std.proofs.Common.{◌≡◌, ℕ, [], ◌∷◌, ◌++◌, refl, sym, ◌∙◌, ap, subst, append_assoc}
-use Rattle.onvm_core.specs.declared.step.Act.{Act}
-use Rattle.onvm_core.specs.Blocks.{IsOfBlocks, MayFollow, RoleKind, kind_of}
+use Rattle.std.proofs.Common.{◌≡◌, ℕ, [], ◌∷◌, ◌++◌, refl, sym, ap, subst, append_assoc}
+use Rattle.onvm_core.specs.Blocks.{IsOfBlocks, MayFollow, kind_of}
 use Rattle.onvm_core.specs.Blocks.RoleKind.{Handles, Receives, Sends, Ticks}
 use Rattle.onvm_core.specs.Handling.{MayHandle}
 use Rattle.onvm_core.specs.Logs.{Log, Setting}

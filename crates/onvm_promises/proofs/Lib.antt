@@ -5,8 +5,11 @@ pub mod Fitting
 pub mod Following
 pub mod Keeping
 pub mod Moving
+pub mod OneFrame
 pub mod Pacing
+pub mod SendPromise
 pub mod Settling
+pub mod ShareVectors
 pub mod Stretches
 pub mod Ticking
 pub mod Timing

@@ -23,7 +23,8 @@ use Rattle.onvm_promises.specs.Follows.{SendsFrom, send_phase_from}
 use Rattle.onvm_promises.specs.Passes.{IsMarksPass, is_pop_of}
 use Rattle.onvm_promises.specs.Rests.{IsSettledFeeder}
 use Rattle.onvm_promises.specs.Times.{passes_in}
-use Rattle.onvm_promises.proofs.Settling.{mark_phase_same, marked_still, moves_unmarked}
+use Rattle.onvm_promises.proofs.Settling.{mark_phase_same, marked_still}
+use Rattle.onvm_promises.proofs.Unmarked.{moves_unmarked}
 
 -- No more pops were made since the latest marks pass than in this stretch; or a marks pass leaves no trace yet, and so
 -- counts as standing anywhere
@@ -133,7 +134,8 @@ IsReset now was passed earlier = (now ≡ 0) ⊎ ((now ≡ was) × (passed ≡ e
 
 by_looks : (looks : List MarkLook) (seen now was earlier : ℕ) (found : Pass) (events : MarkEvents)
     → IsReset now was (pass_count events) earlier
-    → IsReset (since_ended_pass looks now) was (pass_count (events_in (mark_after_look looks seen found events))) earlier
+    → IsReset (since_ended_pass looks now) was (pass_count (events_in (mark_after_look looks seen found events)))
+    earlier
 by_looks [] seen now was earlier found events reset = reset
 by_looks (w ∷ []) seen now was earlier found events reset = inl refl
 by_looks (w ∷ v ∷ ws) seen now was earlier found events reset = reset
@@ -149,7 +151,8 @@ look_resets setting feeder f at seen log now was earlier (InPass next later foun
 
 post_resets : (setting : Setting) (feeder value : ℕ) (log : Log) (now was earlier : ℕ) (phase : MarkPhase)
     → IsReset now was (pass_count (events_in phase)) earlier
-    → IsReset now was (pass_count (events_in (mark_after setting feeder log phase (Post (PostWord feeder) value)))) earlier
+    → IsReset now was (pass_count (events_in (mark_after setting feeder log phase (Post
+    (PostWord feeder) value)))) earlier
 post_resets setting feeder value log now was earlier (AtRest events) reset = reset
 post_resets setting feeder value log now was earlier (InPass next later found events) reset = reset
 
@@ -170,10 +173,12 @@ pops_reset setting feeder f (act ∷ made) before are =
         (passes_in setting feeder (act ∷ log)) (passes_in setting feeder before)
     by_act act (ALook g at seen known within) reset =
         look_resets setting feeder g at seen log (pops_since_pass setting feeder f log)
-        (pops_since_pass setting feeder f before) (passes_in setting feeder before) (mark_phase setting feeder log) reset
+        (pops_since_pass setting feeder f before) (passes_in setting feeder before)
+        (mark_phase setting feeder log) reset
     by_act act (APost value) reset =
         post_resets setting feeder value log (pops_since_pass setting feeder f log)
-        (pops_since_pass setting feeder f before) (passes_in setting feeder before) (mark_phase setting feeder log) reset
+        (pops_since_pass setting feeder f before) (passes_in setting feeder before)
+        (mark_phase setting feeder log) reset
 
 pub blocks_reset : (setting : Setting) (port : ℕ) (made before : Log) → AreMarkSteps setting port made
     → IsReset (blocks_since_pass setting port (made ++ before)) (blocks_since_pass setting port before)

@@ -75,7 +75,7 @@ since_until m (act ∷ before) =
           ∙ if_met (nat_le (length before + 1) m) (act ∷ before) (log_until m before) long
     ]
 
-until_until : (m n : ℕ) (log : Log) → m ≤ n → log_until m (log_until n log) ≡ log_until m log
+pub until_until : (m n : ℕ) (log : Log) → m ≤ n → log_until m (log_until n log) ≡ log_until m log
 until_until m n [] le = refl
 until_until m n (act ∷ before) le =
     elim (cases_Bool (nat_le (length before + 1) n)) [

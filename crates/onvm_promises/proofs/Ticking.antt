@@ -1,7 +1,7 @@
 -- The ticks of a session, from pass to pass.
-use Rattle.std.proofs.Common.{◌≡◌, ℕ, suc, ◌+◌, ◌-◌, ◌<◌, ◌≤◌, Bool, true, false, if◌then◌else◌, inl, inr, List, [], ◌∷◌, ◌++◌, length, take, refl, sym, ◌∙◌, ap, subst, arith, append_assoc, length-append}
-use Rattle.std.specs.Prelude.{◌&&◌, ◌||◌, nat_lt, nat_le, slice_get}
-use Rattle.std.proofs.lemmas.Bool.{cases_Bool, and_parts, or_cases, leb-true, both_ways}
+use Rattle.std.proofs.Common.{◌≡◌, ℕ, ◌+◌, ◌-◌, ◌≤◌, true, false, inl, inr, List, [], ◌∷◌, ◌++◌, length, take, refl, sym, ◌∙◌, ap, subst, arith, append_assoc, length-append}
+use Rattle.std.specs.Prelude.{nat_lt, nat_le}
+use Rattle.std.proofs.lemmas.Bool.{cases_Bool, and_parts, leb-true}
 use Rattle.std.proofs.lemmas.List.{append-nil, take-append-le}
 use Rattle.onvm_base.specs.declared.ids.FnId.{FnId}
 use Rattle.onvm_base.specs.declared.plan.Plan.{Plan}
@@ -15,7 +15,7 @@ use Rattle.onvm_core.proofs.Lists.{if_met, if_unmet}
 use Rattle.load_estimate.specs.declared.sample.Sample.{Sample}
 use Rattle.load_estimate.specs.declared.tick.Tick.{Tick}
 use Rattle.onvm_promises.specs.Lines.{lines_of, share_at, weight_posted, weights_posted}
-use Rattle.onvm_promises.specs.Ticks.{AreAllTicks, AreApart, AreTicks, AreTicksSoFar, NeverFall, PostsWeights, TakenRise, is_due, last_moment, last_number, new_ticks, tick_at, weight_posts, weights_in}
+use Rattle.onvm_promises.specs.Ticks.{AllUpTo, AreAllTicks, AreApart, AreTicks, AreTicksSoFar, NeverFall, PostsWeights, TakenRise, is_due, last_moment, last_number, new_ticks, tick_at, weight_posts, weights_in}
 
 -- Samples that come later change no tick
 
@@ -41,10 +41,6 @@ ticks_more plan samples more earlier (t ∷ ts) are = (
 abbrev pub AllAt : ℕ → List Sample → Type 0
 AllAt now [] = Unit {0}
 AllAt now (s ∷ ss) = (s.moment ≡ now) × AllAt now ss
-
-abbrev pub AllUpTo : ℕ → List Sample → Type 0
-AllUpTo now [] = Unit {0}
-AllUpTo now (s ∷ ss) = (s.moment ≤ now) × AllUpTo now ss
 
 at_once : (from now : ℕ) (more : List Sample) → from ≤ now → AllAt now more → NeverFall from more
 at_once from now [] le all = tt
@@ -125,7 +121,8 @@ weights_append f (u ∷ us) more =
     ap (λ (ws : List ℕ). weight_posted (share_at u f) ++ ws) (weights_append f us more)
     ∙ sym (append_assoc (weight_posted (share_at u f)) (weights_posted f us) (weights_posted f more))
 
-weights_added : (f : FnId) (added before : Log) → weights_in f (added ++ before) ≡ weights_in f before ++ weights_in f added
+weights_added : (f : FnId) (added before : Log) → weights_in f (added ++ before) ≡ weights_in f before
+    ++ weights_in f added
 weights_added f [] before = sym (append-nil (weights_in f before))
 weights_added f (act ∷ added) before =
     ap (λ (ws : List ℕ). ws ++ weight_posts f act) (weights_added f added before)
@@ -206,7 +203,8 @@ ticks_closed plan functions first now samples more ticks added before later so_f
     }
 
 -- a pass that was cut short
-pub ticks_stay : (plan : Plan) (functions first : ℕ) (samples more : List Sample) (ticks : List Tick) (added before : Log)
+pub ticks_stay : (plan : Plan) (functions first : ℕ) (samples more : List Sample) (ticks : List Tick)
+    (added before : Log)
     → AreTicksSoFar plan functions first samples ticks before → PostsWeights functions [] added
     → AreTicksSoFar plan functions first (samples ++ more) ticks (added ++ before)
 ticks_stay plan functions first samples more ticks added before so_far posts =

@@ -1,5 +1,5 @@
 -- The answers on the age of a marks pass that is made at one moment.
-use Rattle.std.proofs.Common.{◌≡◌, ℕ, ◌+◌, ◌-◌, ◌<◌, ◌≤◌, Bool, true, false, inl, inr, [], ◌∷◌, ◌++◌, length, refl, sym, ◌∙◌, ap, arith}
+use Rattle.std.proofs.Common.{◌≡◌, ℕ, ◌+◌, ◌-◌, ◌<◌, ◌≤◌, Bool, true, false, inl, inr, [], ◌∷◌, ◌++◌, length, refl, ◌∙◌, ap, arith}
 use Rattle.std.specs.Prelude.{◌==◌, ◌&&◌, nat_le}
 use Rattle.std.proofs.lemmas.Bool.{eq-eqb, ne_eqb}
 use Rattle.std.proofs.lemmas.Bool.Decides.{eqb_tells}
@@ -11,7 +11,7 @@ use Rattle.onvm_core.proofs.Lists.{if_met, if_unmet}
 use Rattle.onvm_promises.specs.Acts.{AreMarkSteps, IsMarkStep}
 use Rattle.onvm_promises.specs.Acts.IsMarkStep.{ALook, APost}
 use Rattle.onvm_promises.specs.Times.{aged_by, passes_in, push_moment, reading_time}
-use Rattle.onvm_promises.proofs.Aging.{passes_grow, passes_rise}
+use Rattle.onvm_core.proofs.Agreeing.{passes_by, passes_grow}
 
 -- what a feeder does later says nothing of a pass that has ended
 pub aged_later : (setting : Setting) (feeder : ℕ) (moment : ℕ → ℕ) (later before : Log) (pass f : ℕ)
@@ -74,7 +74,7 @@ aged_now setting feeder f now moment (act ∷ made) before marks at ended =
           (over (passes_in setting feeder log) pass (passes_grow setting feeder made before) other.1)
       | inl same ↦
           let is : passes_in setting feeder log ≡ pass = same.1 in
-          let rose = passes_rise setting feeder act log in
+          let rose = passes_by setting feeder act log in
           let next : passes_in setting feeder (act ∷ log) ≡ pass + 1 =
           omega (arith, rose.0, rose.1, is, ended) in
           let on : test ≡ true =

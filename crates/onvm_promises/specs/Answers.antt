@@ -6,13 +6,14 @@ use Rattle.onvm_core.specs.declared.layout.Word.TheVariants.{Cell}
 use Rattle.onvm_core.specs.declared.step.Act.{Act}
 use Rattle.onvm_core.specs.declared.step.Act.TheVariants.{Push, Pop, Look}
 use Rattle.onvm_core.specs.Handling.{IsOwn}
-use Rattle.onvm_core.specs.Logs.{Log, Setting, entries_of_port, feeder_count}
+use Rattle.onvm_core.specs.Logs.{Log, Setting, entries_of_port}
 use Rattle.onvm_core.specs.Places.{how_many}
 use Rattle.onvm_core.specs.Receiving.{done_count, receive_phase}
 use Rattle.onvm_core.specs.Sending.{Reads}
 use Rattle.onvm_promises.specs.declared.pass.Pass.{Pass}
 use Rattle.onvm_promises.specs.declared.pass.Pass.TheVariants.{Did, Idle, Wanting, Stopped}
 use Rattle.onvm_promises.specs.Passes.{ran_dry}
+use Rattle.onvm_core.specs.Layouts.{feeder_count}
 
 -- the pass wasn't cut short
 abbrev pub is_complete : Pass → Bool
@@ -58,4 +59,4 @@ saw_full f _ = false
 abbrev pub IsIdleCore : Setting → (role : ℕ) → Log → Type 0
 IsIdleCore setting role added = (f : FnId) → IsOwn setting role f
     → (0 < how_many (saw_full f) added)
-    ⊎ ((feeder : ℕ) → feeder < feeder_count setting → ran_dry (Lane f feeder) added ≡ true)
+    ⊎ ((feeder : ℕ) → feeder < feeder_count setting.layout → ran_dry (Lane f feeder) added ≡ true)

@@ -1,4 +1,5 @@
--- The pattern of a stretch of a role's log, from where the role stood before it. Nothing else is said of the log before.
+-- The pattern of a stretch of a role's log, from where the role stood before it. Nothing else is said of the log
+-- before.
 use Rattle.std.specs.Prelude.{ℕ, ◌≡◌, ◌⊎◌, [], ◌∷◌, ◌++◌, Some}
 use Rattle.onvm_core.specs.declared.entry.Entry.{Entry}
 use Rattle.onvm_core.specs.declared.step.Act.{Act}

@@ -10,8 +10,8 @@ use Rattle.onvm_core.specs.declared.step.Act.{Act}
 use Rattle.onvm_core.specs.declared.step.Act.TheVariants.{Push, Full, Pop, Empty, Look}
 use Rattle.onvm_core.specs.Blocks.{IsOfBlocks}
 use Rattle.onvm_core.specs.Handling.{IsOwn, budget_left, core_hand, is_push_on}
-use Rattle.onvm_core.specs.Layouts.{same_ring}
-use Rattle.onvm_core.specs.Logs.{Log, Setting, entries_of_port, feeder_count}
+use Rattle.onvm_core.specs.Layouts.{same_ring, feeder_count}
+use Rattle.onvm_core.specs.Logs.{Log, Setting, entries_of_port}
 use Rattle.onvm_core.specs.Marks.{Ages, looks_of_pass}
 use Rattle.onvm_core.specs.Places.{how_many, one_if}
 use Rattle.onvm_core.specs.Receiving.{done_count, receive_phase}
@@ -93,7 +93,7 @@ pub data EndsBarred (f : FnId) : Log → Type 0 where
 abbrev pub EndsService : Setting → FnId → (before service : Log) → Type 0
 EndsService setting f before service =
     (budget_left setting.plan f (service ++ before) ≡ 0) ⊎ EndsBarred f service
-    ⊎ EndsWithEmpties f (feeder_count setting) service
+    ⊎ EndsWithEmpties f (feeder_count setting.layout) service
 
 abbrev pub is_service_act : FnId → Act → Bool
 is_service_act f (Look (Weight g) seen told) = g.0 == f.0

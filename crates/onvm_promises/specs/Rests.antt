@@ -6,7 +6,7 @@ use Rattle.onvm_core.specs.declared.step.Act.{Act}
 use Rattle.onvm_core.specs.declared.step.Act.TheVariants.{Pop, Empty}
 use Rattle.onvm_core.specs.Blocks.{IsOfBlocks}
 use Rattle.onvm_core.specs.Handling.{IsOwn, core_hand}
-use Rattle.onvm_core.specs.Logs.{Log, Setting, Hand, feeder_count}
+use Rattle.onvm_core.specs.Logs.{Log, Setting, Hand}
 use Rattle.onvm_core.specs.Marks.{Ages, AreMarked, IsPaid, IsResting, mark_events, mark_phase}
 use Rattle.onvm_core.specs.Pace.{IsPaced}
 use Rattle.onvm_core.specs.Places.{how_many}
@@ -15,6 +15,7 @@ use Rattle.onvm_core.specs.Receiving.ReceivePhase.{Between}
 use Rattle.onvm_core.specs.Samples.{AreSamples, is_sampled}
 use Rattle.onvm_core.specs.Sending.{send_phase}
 use Rattle.onvm_core.specs.Sending.SendPhase.{Free}
+use Rattle.onvm_core.specs.Layouts.{feeder_count}
 
 -- a feeder is in no marks pass and owes no post
 pub record IsSettledFeeder (setting : Setting) (feeder : ℕ) (aged : Ages) (log : Log) : Type 0 where
@@ -41,8 +42,8 @@ is_try f (Empty (Lane g p)) = g.0 == f.0
 is_try f _ = false
 
 abbrev pub MayTry : Setting → Log → Act → Type 0
-MayTry setting before (Pop (Lane f p) item) = p ≡ how_many (is_try f) before % feeder_count setting
-MayTry setting before (Empty (Lane f p)) = p ≡ how_many (is_try f) before % feeder_count setting
+MayTry setting before (Pop (Lane f p) item) = p ≡ how_many (is_try f) before % feeder_count setting.layout
+MayTry setting before (Empty (Lane f p)) = p ≡ how_many (is_try f) before % feeder_count setting.layout
 MayTry setting before _ = Unit {0}
 
 abbrev pub AreTries : Setting → Log → Type 0

@@ -32,7 +32,8 @@ pub record IsReceiverSoFar (setting : Setting) (port : ℕ) (moment : ℕ → �
   pub rests : RestsReceiving setting port (aged_by setting port moment log) log
   pub kept : AreFeederKeeps moment log keeps
 
--- a receive pass at this moment: the log grew, and so far all is as it should be; where the pass wasn't cut short it was
+-- a receive pass at this moment: the log grew, and so far all is as it should be; where the pass wasn't cut short it
+-- was
 -- whole
 pub record IsReceivePromise (setting : Setting) (port now : ℕ) (moment : ℕ → ℕ) (before after : Log)
     (keeps : FeederKeeps) (answer : Pass) : Type 0 where

@@ -62,6 +62,11 @@ abbrev pub NeverFall : ℕ → List Sample → Type 0
 NeverFall moment [] = Unit {0}
 NeverFall moment (sample ∷ samples) = (moment ≤ sample.moment) × NeverFall sample.moment samples
 
+-- each sample's moment is at most this
+abbrev pub AllUpTo : ℕ → List Sample → Type 0
+AllUpTo now [] = Unit {0}
+AllUpTo now (sample ∷ samples) = (sample.moment ≤ now) × AllUpTo now samples
+
 -- Ticks
 
 -- behind the earlier ones each tick has its number and its lines, over the samples that were taken by then

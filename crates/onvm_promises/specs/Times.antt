@@ -23,7 +23,8 @@ reading_time setting feeder f now moment log =
 abbrev pub passes_in : Setting → ℕ → Log → ℕ
 passes_in setting feeder log = pass_count (mark_events setting feeder log)
 
--- whether the reading in a pass, counted from 0, had a time of at least the age: the moment is that of the pass's last look
+-- whether the reading in a pass, counted from 0, had a time of at least the age: the moment is that of the pass's
+-- last look
 abbrev pub aged_by : Setting → ℕ → (ℕ → ℕ) → Log → Ages
 aged_by setting feeder moment [] pass f = false
 aged_by setting feeder moment (act ∷ before) pass f =

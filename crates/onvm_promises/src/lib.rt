@@ -5,6 +5,7 @@
 //! records, sent frames, posts and samples, is what its log tells, each with the *moment* of its act.
 #![tactic(auto)]
 
+pub mod laws;
 mod pass;
 
 pub use pass::Pass;

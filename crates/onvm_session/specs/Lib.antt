@@ -1,0 +1,9 @@
+pub mod Accounts
+pub mod Endings
+pub mod Lists
+pub mod Moments
+pub mod SerialTicks
+pub mod Sessions
+pub mod Starts
+pub mod Turns
+pub mod Views
