@@ -111,16 +111,16 @@ module _ (site : BoardView) (token : TokenView) (ranges : IsLayout site.layout) 
   lanes_begin tails feeder =
       ends_begin IsTailAt (new_tail site.layout) site (lane_from token.role) site.layout.functions tails token
       (λ f less.
-          tail_begins site (lane_from token.role f) token ranges board (less, feeder)
-          (ap (pushed_in (lane_from token.role f)) fresh))
+      tail_begins site (lane_from token.role f) token ranges board (less, feeder)
+      (ap (pushed_in (lane_from token.role f)) fresh))
 
   pub lane_heads_begin : (f : ℕ) (heads : List Head) → f < site.layout.functions
       → AreNew (new_head site.layout) (lane_to f) (feeder_count site.layout) heads → AreLaneHeads site f heads token
   lane_heads_begin f heads known =
       ends_begin IsHeadAt (new_head site.layout) site (lane_to f) (feeder_count site.layout) heads token
       (λ feeder less.
-          head_begins site (lane_to f feeder) token ranges board (known, less) tt
-          (ap (popped_in (lane_to f feeder)) fresh))
+      head_begins site (lane_to f feeder) token ranges board (known, less) tt
+      (ap (popped_in (lane_to f feeder)) fresh))
 
   pub outputs_begin : (tails : List Tail) → AreNew (new_tail site.layout) output_of site.layout.functions tails
       → AreOutputs site tails token

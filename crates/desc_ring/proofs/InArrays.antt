@@ -108,7 +108,7 @@ module _ (site : BoardView) (rings : ℕ → RingId) (count : ℕ) (added : Log)
   tails_moved tails i tail known none =
       ends_moved IsTailAt site rings count tails before after i tail known
       (λ j other less apart.
-          tail_at_grown site (rings j) added hand before after grew other (none j less apart))
+      tail_at_grown site (rings j) added hand before after grew other (none j less apart))
 
   pub heads_grown : (heads : List Head) → ((i : ℕ) → i < count → popped_in (rings i) added ≡ [])
       → AreEnds IsHeadAt site rings count heads before → AreEnds IsHeadAt site rings count heads after
@@ -123,7 +123,7 @@ module _ (site : BoardView) (rings : ℕ → RingId) (count : ℕ) (added : Log)
   heads_moved heads i head known none =
       ends_moved IsHeadAt site rings count heads before after i head known
       (λ j other less apart.
-          head_at_grown site (rings j) added hand before after grew other (none j less apart))
+      head_at_grown site (rings j) added hand before after grew other (none j less apart))
 
   pub mail_tails_grown : (mails : List Mail) → ((i : ℕ) → i < count → pushed_in (rings i) added ≡ [])
       → AreEnds IsMailTailAt site rings count mails before → AreEnds IsMailTailAt site rings count mails after
@@ -138,7 +138,7 @@ module _ (site : BoardView) (rings : ℕ → RingId) (count : ℕ) (added : Log)
   mail_tails_moved mails i mail known none =
       ends_moved IsMailTailAt site rings count mails before after i mail known
       (λ j other less apart.
-          mail_tail_at_grown site (rings j) added hand before after grew other (none j less apart))
+      mail_tail_at_grown site (rings j) added hand before after grew other (none j less apart))
 
   pub mail_heads_grown : (mails : List Mail) → ((i : ℕ) → i < count → popped_in (rings i) added ≡ [])
       → AreEnds IsMailHeadAt site rings count mails before → AreEnds IsMailHeadAt site rings count mails after
@@ -153,7 +153,7 @@ module _ (site : BoardView) (rings : ℕ → RingId) (count : ℕ) (added : Log)
   mail_heads_moved mails i mail known none =
       ends_moved IsMailHeadAt site rings count mails before after i mail known
       (λ j other less apart.
-          mail_head_at_grown site (rings j) added hand before after grew other (none j less apart))
+      mail_head_at_grown site (rings j) added hand before after grew other (none j less apart))
 
 -- A feeder's lanes
 

@@ -13,7 +13,12 @@ use onvm_core::Layout;
 use std::alloc::Global;
 
 /// A feeder's ends of its lanes, by function.
-pub fn lane_tails(alloc: Global, board: &Board, layout: &Layout, feeder: u8) -> Result<Vec<Tail>, NoMemory>
+pub fn lane_tails(
+    alloc: Global,
+    board: &Board,
+    layout: &Layout,
+    feeder: u8,
+) -> Result<Vec<Tail>, NoMemory>
     requires ranges { IsLayout layout.now }
     requires layout { layout.now ≡ board.now.layout }
     requires feeder { IsFeeder board.now.layout feeder }
@@ -28,7 +33,12 @@ pub fn lane_tails(alloc: Global, board: &Board, layout: &Layout, feeder: u8) -> 
 }
 
 /// A core's ends of the lanes of one of its functions, by feeder.
-pub fn lane_heads(alloc: Global, board: &Board, layout: &Layout, function: FnId) -> Result<Vec<Head>, NoMemory>
+pub fn lane_heads(
+    alloc: Global,
+    board: &Board,
+    layout: &Layout,
+    function: FnId,
+) -> Result<Vec<Head>, NoMemory>
     requires ranges { IsLayout layout.now }
     requires layout { layout.now ≡ board.now.layout }
     requires function { function.0 < board.now.layout.functions }

@@ -9,6 +9,8 @@ mod arrays;
 mod head;
 mod mail;
 mod tail;
+#[cfg(test)]
+mod tests;
 
 pub use arrays::{lane_heads, lane_tails, mail_ends, output_heads, output_tails};
 pub use head::Head;

@@ -1,10 +1,9 @@
 -- A part whose first words were seen to be 0.
-use Rattle.std.proofs.Common.{◌≡◌, ℕ, zero, suc, ◌+◌, ◌-◌, ◌/◌, ◌++◌, [], refl, sym, ap, subst, arith, ◌∙◌}
+use Rattle.std.proofs.Common.{◌≡◌, ℕ, zero, suc, ◌+◌, ◌-◌, ◌/◌, ◌++◌, [], refl, sym, ap, subst, arith}
 use Rattle.onvm_core.specs.declared.layout.Layout.{Layout}
 use Rattle.onvm_core.specs.declared.layout.Word.TheVariants.{Pool}
 use Rattle.onvm_core.specs.Logs.{Log}
 use Rattle.onvm_board.specs.declared.ask.Ask.TheVariants.{Last}
-use Rattle.onvm_board.specs.Addresses.{part_words}
 use Rattle.onvm_board.specs.Asking.{HasSought, IsAskOf}
 use Rattle.onvm_board.specs.Tokens.{TokenView, grown}
 use Rattle.mbuf_pool.specs.declared.part.Part.{Part}

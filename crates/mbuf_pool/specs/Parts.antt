@@ -1,5 +1,5 @@
 -- What a take of a port's part, and a give, add to a token.
-use Rattle.std.specs.Prelude.{ℕ, ◌≡◌, ◌-◌, ◌<◌, zero, suc, List, [], ◌∷◌, ◌++◌, Some, None}
+use Rattle.std.specs.Prelude.{ℕ, ◌≡◌, ◌-◌, ◌<◌, zero, suc, [], ◌∷◌, ◌++◌, Some, None}
 use Rattle.onvm_base.specs.declared.ids.BufId.{BufId}
 use Rattle.onvm_base.specs.declared.ids.FrameId.{FrameId}
 use Rattle.onvm_base.specs.declared.outcome.Outcome.TheVariants.{PoolEmpty}

@@ -43,11 +43,12 @@ pub fn give_back(board: &Board, token: &mut Token, buf: BufId, outcome: Outcome)
     let Some(parcel) = board.lend(token, buf, None) else {
         unreachable!()
     };
-    board.give(token, buf, outcome, &parcel);
-    Record {
+    let record = Record {
         frame: parcel.frame,
         outcome,
-    }
+    };
+    board.give(token, buf, record.outcome, &parcel);
+    record
 }
 
 /// Gives the buffer in hand back as sent by a port, and answers the frame with the bytes that it is

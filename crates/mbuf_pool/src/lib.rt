@@ -5,6 +5,8 @@
 
 mod giving;
 mod part;
+#[cfg(test)]
+mod tests;
 
 pub use giving::{give, give_back, send};
 pub use part::Part;
