@@ -1,3 +1,4 @@
+pub mod Compact
 pub mod Cutting
 pub mod KeptChains
 pub mod KeptFunctions
@@ -11,7 +12,16 @@ pub mod Listing
 pub mod Pairs
 pub mod Places
 pub mod Ranges
+pub mod Reading
+pub mod Rows
 pub mod Sizing
+pub mod Spelled
 pub mod Stages
 pub mod Told
 pub mod Untold
+pub mod WrittenExample
+pub mod WrittenKinds
+pub mod WrittenPlan
+pub mod WrittenSize
+pub mod WrittenTests
+pub mod WrittenTop

@@ -175,6 +175,14 @@ pub record IsPlanOf (captures : ℕ) (guests : List (List ℕ)) (d : Data) (plan
   pub rules_are : plan.rules ≡ rule_list captures guests d
   pub default_is : plan.default ≡ (default_of captures guests d).value
 
+-- two plans of one content
+pub record IsSamePlan (plan other : Plan) : Type 0 where
+  pub numbers : numbers_of plan ≡ numbers_of other
+  pub functions : plan.functions ≡ other.functions
+  pub chains : plan.chains ≡ other.chains
+  pub rules : plan.rules ≡ other.rules
+  pub default : plan.default ≡ other.default
+
 -- the fault is the tree's first one, unless it is want of memory: of the top object; or of the functions, and the top is
 -- right; or of the chains, and what comes before them is right; or of the rules; or of the default
 pub data IsFaultOf (captures : ℕ) (guests : List (List ℕ)) (d : Data) (fault : FileFault) : Type 0 where

@@ -5,9 +5,11 @@ pub mod Functions
 pub mod Guests
 pub mod Kinds
 pub mod Matches
+pub mod Messages
 pub mod Rules
 pub mod Spelling
 pub mod Top
 pub mod Values
+pub mod Widths
 pub mod Words
 pub mod Written

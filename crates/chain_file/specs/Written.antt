@@ -1,10 +1,11 @@
--- The written form of a plan: every key in the order of the tables, without white space.
-use Rattle.std.specs.Prelude.{ℕ, zero, suc, ◌/◌, ◌%◌, Option, Some, None, List, [], ◌∷◌, ◌++◌, map, codes, decimal, slice_get, option_map, unwrap_or}
+-- The written form of a plan: every key with its value, in the order of the tables, without white space.
+use Rattle.std.specs.Prelude.{ℕ, ◌/◌, ◌%◌, Option, Some, None, List, [], ◌∷◌, ◌++◌, map, codes, decimal, slice_get, option_map, unwrap_or}
 use Rattle.std.specs.List.{flat_map}
 use Rattle.std.specs.Char.{digit_char}
-use Rattle.json.specs.Json as json
-use Rattle.json.specs.Print.{print}
-use Rattle.json.specs.Tree.{json_tokens}
+use Rattle.std.specs.Int.{w128, to_be_bytes}
+use Rattle.serde_json.specs.Data.{Data, number, unsigned, string, array, object, Members, no_members, member}
+use Rattle.serde_json.specs.View.{items_of}
+use Rattle.serde_json.specs.Written.{compact_text}
 use Rattle.onvm_base.specs.declared.rules.Prefix.{Prefix}
 use Rattle.onvm_base.specs.declared.rules.Prefix.TheVariants.{V4, V6}
 use Rattle.onvm_base.specs.declared.rules.Tests.{Tests}
@@ -18,91 +19,107 @@ use Rattle.onvm_base.specs.declared.function.Kind.TheVariants as kind
 use Rattle.onvm_base.specs.declared.function.FunctionPlan.{FunctionPlan}
 use Rattle.onvm_base.specs.declared.plan.Plan.{Plan}
 
-abbrev pub Field : Type 0
-Field = List ℕ × json.Json
+-- ---- trees
 
-abbrev pub fields_of : List Field → json.Members
-fields_of [] = json.no_members
-fields_of (f ∷ fs) = json.member f.0 f.1 (fields_of fs)
+-- a key of an object with its value, or without one: then it isn't written
+abbrev pub Row : Type 0
+Row = List ℕ × Option Data
 
-abbrev pub fields : List Field → json.Json
-fields fs = json.object (fields_of fs)
+abbrev pub row : List ℕ → Data → Row
+row key d = (key, Some d)
 
-abbrev pub items_of : List json.Json → json.Items
-items_of [] = json.no_items
-items_of (j ∷ js) = json.item j (items_of js)
+abbrev pub natural : ℕ → Data
+natural n = number (unsigned n)
 
-abbrev pub list : List json.Json → json.Json
-list js = json.array (items_of js)
+abbrev pub natural_row : List ℕ → ℕ → Row
+natural_row key n = row key (natural n)
 
-abbrev pub number : ℕ → json.Json
-number n = json.number (decimal n)
+abbrev pub member_if : List ℕ → Option Data → Members → Members
+member_if key None ms = ms
+member_if key (Some d) ms = member key d ms
 
-abbrev pub number_field : List ℕ → ℕ → Field
-number_field key n = (key, number n)
+abbrev pub members_of : List Row → Members
+members_of [] = no_members
+members_of (r ∷ rs) = member_if r.0 r.1 (members_of rs)
 
--- a key that stands only where there is a value
-abbrev pub field_if : {A : Type 0} → List ℕ → (A → json.Json) → Option A → List Field
-field_if key form None = []
-field_if key form (Some value) = (key, form value) ∷ []
+abbrev pub object_of : List Row → Data
+object_of rows = object (members_of rows)
 
-abbrev pub range : ℕ × ℕ → json.Json
-range pair = list (number pair.0 ∷ number pair.1 ∷ [])
+abbrev pub list : List Data → Data
+list ds = array (items_of ds)
+
+abbrev pub range : ℕ × ℕ → Data
+range pair = list (natural pair.0 ∷ natural pair.1 ∷ [])
 
 -- ---- spellings
 
--- the lowest so many hexadecimal digits
-abbrev pub hex : ℕ → ℕ → List ℕ
-hex zero n = []
-hex (suc digits) n = hex digits (n / 16) ++ digit_char (n % 16) ∷ []
+-- a number up to a mark, and the rest
+abbrev pub number_to : ℕ → ℕ → List ℕ → List ℕ
+number_to mark n rest = decimal n ++ mark ∷ rest
 
 abbrev pub v4_text : ℕ → List ℕ
 v4_text address =
-    decimal (address / 16777216) ++ codes "." ++ decimal (address / 65536 % 256) ++ codes "." ++ decimal (address / 256 % 256)
-    ++ codes "." ++ decimal (address % 256)
+    number_to 46 (address / 16777216)
+    (number_to 46 (address / 65536 % 256) (number_to 46 (address / 256 % 256) (decimal (address % 256))))
+
+abbrev pub hex_digits : ℕ → List ℕ
+hex_digits byte = digit_char (byte / 16) ∷ digit_char (byte % 16) ∷ []
+
+abbrev pub hex_text : List ℕ → List ℕ
+hex_text bytes = flat_map hex_digits bytes
 
 abbrev pub prefix_text : Prefix → List ℕ
-prefix_text (V4 address bits) = v4_text address ++ codes "/" ++ decimal bits
-prefix_text (V6 address bits) = hex 32 address ++ codes "/" ++ decimal bits
+prefix_text (V4 address bits) = v4_text address ++ 47 ∷ decimal bits
+prefix_text (V6 address bits) = hex_text (to_be_bytes w128 address) ++ 47 ∷ decimal bits
 
-abbrev pub mac_text : List ℕ → List ℕ
-mac_text bytes = flat_map (hex 2) bytes
-
-abbrev pub prefix : Prefix → json.Json
-prefix p = json.string (prefix_text p)
+abbrev pub prefix : Prefix → Data
+prefix p = string (prefix_text p)
 
 -- ---- rules and chains
 
-abbrev pub tests : Tests → json.Json
-tests t = fields (
-    field_if (codes "port") number t.port
-    ++ field_if (codes "vlan") number t.vlan
-    ++ field_if (codes "type") number t.ethertype
-    ++ field_if (codes "src") prefix t.src
-    ++ field_if (codes "dst") prefix t.dst
-    ++ field_if (codes "protocol") number t.protocol
-    ++ field_if (codes "src_ports") range t.src_ports
-    ++ field_if (codes "dst_ports") range t.dst_ports
-    )
+abbrev pub test_rows : Tests → List Row
+test_rows t =
+    (codes "port", option_map natural t.port)
+    ∷ (codes "vlan", option_map natural t.vlan)
+    ∷ (codes "type", option_map natural t.ethertype)
+    ∷ (codes "src", option_map prefix t.src)
+    ∷ (codes "dst", option_map prefix t.dst)
+    ∷ (codes "protocol", option_map natural t.protocol)
+    ∷ (codes "src_ports", option_map range t.src_ports)
+    ∷ (codes "dst_ports", option_map range t.dst_ports)
+    ∷ []
 
-abbrev pub step_field : ChainStep → Field
-step_field (step.To service) = number_field (codes "to") service
-step_field (step.Out port) = number_field (codes "out") port
+abbrev pub tests : Tests → Data
+tests t = object_of (test_rows t)
 
-abbrev pub chain : ChainPlan → json.Json
-chain c = fields ((codes "name", json.string c.name) ∷ (codes "steps", list (map (λ s. fields (step_field s ∷ [])) c.steps)) ∷ [])
+abbrev pub step_row : ChainStep → Row
+step_row (step.To service) = natural_row (codes "to") service
+step_row (step.Out port) = natural_row (codes "out") port
+
+abbrev pub one_step : ChainStep → Data
+one_step s = object_of (step_row s ∷ [])
+
+abbrev pub chain_rows : ChainPlan → List Row
+chain_rows c = row (codes "name") (string c.name) ∷ row (codes "steps") (list (map one_step c.steps)) ∷ []
+
+abbrev pub chain : ChainPlan → Data
+chain c = object_of (chain_rows c)
 
 -- the name of the chain of a number
 abbrev pub name_of_chain : List ChainPlan → ℕ → List ℕ
 name_of_chain chains n = unwrap_or (option_map (λ c. c.name) (slice_get chains n)) []
 
-abbrev pub rule : List ChainPlan → RulePlan → json.Json
-rule chains r = fields ((codes "chain", json.string (name_of_chain chains r.chain.0)) ∷ (codes "match", tests r.tests) ∷ [])
+abbrev pub rule_rows : List ChainPlan → RulePlan → List Row
+rule_rows chains r =
+    row (codes "chain") (string (name_of_chain chains r.chain.0)) ∷ row (codes "match") (tests r.tests) ∷ []
+
+abbrev pub rule : List ChainPlan → RulePlan → Data
+rule chains r = object_of (rule_rows chains r)
 
 -- ---- functions
 
-abbrev pub entry : RouteEntry → json.Json
-entry e = fields ((codes "prefix", prefix e.prefix) ∷ step_field e.target ∷ [])
+abbrev pub entry : RouteEntry → Data
+entry e = object_of (row (codes "prefix") (prefix e.prefix) ∷ step_row e.target ∷ [])
 
 abbrev pub word : Kind → List ℕ
 word kind.Forward = codes "forward"
@@ -122,59 +139,65 @@ word (kind.Nat inside outside ports) = codes "nat"
 word (kind.Guest guest) = codes "guest"
 
 -- the kind's own keys
-abbrev pub own : Kind → List Field
-own kind.Forward = []
-own kind.Drop = []
-own (kind.Out port) = number_field (codes "port") port ∷ []
-own (kind.To service) = number_field (codes "to_service") service ∷ []
-own (kind.Filter ts) = (codes "match", list (map tests ts)) ∷ []
-own kind.Ttl = []
-own (kind.Tag vlan priority) = number_field (codes "vlan") vlan ∷ number_field (codes "tag_priority") priority ∷ []
-own kind.Untag = []
-own (kind.Macs target source) = (codes "target", json.string (mac_text target)) ∷ (codes "source", json.string (mac_text source)) ∷ []
-own (kind.Route table) = (codes "table", list (map entry table)) ∷ []
-own (kind.Balance services) = (codes "services", list (map number services)) ∷ []
-own kind.Count = []
-own (kind.Police rate depth) = number_field (codes "rate") rate ∷ number_field (codes "depth") depth ∷ []
-own (kind.Nat inside outside ports) =
-    (codes "inside", prefix inside) ∷ (codes "outside", json.string (v4_text outside)) ∷ (codes "ports", range ports) ∷ []
-own (kind.Guest guest) = (codes "guest", json.string guest) ∷ []
+abbrev pub own_rows : Kind → List Row
+own_rows kind.Forward = []
+own_rows kind.Drop = []
+own_rows (kind.Out port) = natural_row (codes "port") port ∷ []
+own_rows (kind.To service) = natural_row (codes "to_service") service ∷ []
+own_rows (kind.Filter ts) = row (codes "match") (list (map tests ts)) ∷ []
+own_rows kind.Ttl = []
+own_rows (kind.Tag vlan priority) = natural_row (codes "vlan") vlan ∷ natural_row (codes "tag_priority") priority ∷ []
+own_rows kind.Untag = []
+own_rows (kind.Macs target source) =
+    row (codes "target") (string (hex_text target)) ∷ row (codes "source") (string (hex_text source)) ∷ []
+own_rows (kind.Route table) = row (codes "table") (list (map entry table)) ∷ []
+own_rows (kind.Balance services) = row (codes "services") (list (map natural services)) ∷ []
+own_rows kind.Count = []
+own_rows (kind.Police rate depth) = natural_row (codes "rate") rate ∷ natural_row (codes "depth") depth ∷ []
+own_rows (kind.Nat inside outside ports) =
+    row (codes "inside") (prefix inside) ∷ row (codes "outside") (string (v4_text outside)) ∷ row (codes "ports") (range ports) ∷ []
+own_rows (kind.Guest guest) = row (codes "guest") (string guest) ∷ []
 
-abbrev pub function : FunctionPlan → json.Json
-function f = fields (
-    (codes "name", json.string f.name)
-    ∷ number_field (codes "service") f.service
-    ∷ number_field (codes "core") f.core
-    ∷ (codes "kind", json.string (word f.kind))
-    ∷ number_field (codes "priority") f.priority
-    ∷ number_field (codes "weight") f.weight
-    ∷ number_field (codes "cost") f.cost
-    ∷ own f.kind
-    )
+-- a function of this kind
+abbrev pub function_rows : FunctionPlan → Kind → List Row
+function_rows f kind =
+    row (codes "name") (string f.name)
+    ∷ natural_row (codes "service") f.service
+    ∷ natural_row (codes "core") f.core
+    ∷ row (codes "kind") (string (word kind))
+    ∷ natural_row (codes "priority") f.priority
+    ∷ natural_row (codes "weight") f.weight
+    ∷ natural_row (codes "cost") f.cost
+    ∷ own_rows kind
+
+abbrev pub function : FunctionPlan → Data
+function f = object_of (function_rows f f.kind)
 
 -- ---- the plan
 
-abbrev pub form : Plan → json.Json
-form p = fields (
-    number_field (codes "version") p.version
-    ∷ number_field (codes "ports") p.ports
-    ∷ number_field (codes "transmit") p.transmit
-    ∷ number_field (codes "cores") p.cores
-    ∷ number_field (codes "buffers") p.buffers
-    ∷ number_field (codes "ring") p.ring
-    ∷ number_field (codes "output") p.output
-    ∷ number_field (codes "burst") p.burst
-    ∷ number_field (codes "high") p.high
-    ∷ number_field (codes "low") p.low
-    ∷ number_field (codes "age") p.age
-    ∷ number_field (codes "window") p.window
-    ∷ number_field (codes "tick") p.tick
-    ∷ (codes "functions", list (map function p.functions))
-    ∷ (codes "chains", list (map chain p.chains))
-    ∷ (codes "rules", list (map (rule p.chains) p.rules))
-    ∷ (codes "default", json.string (name_of_chain p.chains p.default.0))
+abbrev pub plan_rows : Plan → List Row
+plan_rows p =
+    natural_row (codes "version") p.version
+    ∷ natural_row (codes "ports") p.ports
+    ∷ natural_row (codes "transmit") p.transmit
+    ∷ natural_row (codes "cores") p.cores
+    ∷ natural_row (codes "buffers") p.buffers
+    ∷ natural_row (codes "ring") p.ring
+    ∷ natural_row (codes "output") p.output
+    ∷ natural_row (codes "burst") p.burst
+    ∷ natural_row (codes "high") p.high
+    ∷ natural_row (codes "low") p.low
+    ∷ natural_row (codes "age") p.age
+    ∷ natural_row (codes "window") p.window
+    ∷ natural_row (codes "tick") p.tick
+    ∷ row (codes "functions") (list (map function p.functions))
+    ∷ row (codes "chains") (list (map chain p.chains))
+    ∷ row (codes "rules") (list (map (rule p.chains) p.rules))
+    ∷ row (codes "default") (string (name_of_chain p.chains p.default.0))
     ∷ []
-    )
+
+abbrev pub form : Plan → Data
+form p = object_of (plan_rows p)
 
 abbrev pub written : Plan → List ℕ
-written p = print (json_tokens (form p))
+written p = compact_text (form p)

@@ -81,6 +81,11 @@ impl FileFault {
 
 /// `file`, `top`, `function N`, `chain N`, `step N M`, `rule N` or `default`.
 impl fmt::Display for Place {
+    ghost use Rattle.std.specs.Prelude.{Some};
+    ghost use Rattle.chain_file.specs.Messages.{place_text};
+
+    ghost output = { λ place. Some (place_text place) };
+
     fn fmt<W: fmt::Write>(&self, f: &mut fmt::Formatter<W>) -> fmt::Result {
         match self.part {
             Part::File => write!(f, "file"),
@@ -96,6 +101,11 @@ impl fmt::Display for Place {
 
 /// The cause and the place, as `twice function 1`, or `memory`.
 impl fmt::Display for FileFault {
+    ghost use Rattle.std.specs.Prelude.{Some};
+    ghost use Rattle.chain_file.specs.Messages.{fault_text};
+
+    ghost output = { λ fault. Some (fault_text fault) };
+
     fn fmt<W: fmt::Write>(&self, f: &mut fmt::Formatter<W>) -> fmt::Result {
         match self {
             FileFault::Json => write!(f, "json file"),

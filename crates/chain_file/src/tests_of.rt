@@ -1,20 +1,20 @@
 //! Match objects.
-ghost use Rattle.std.specs.Prelude.{◌≡◌, ◌≤◌, ◌<◌, ◌^◌, ℕ, Some, map, option_and_then};
+ghost use Rattle.std.specs.Prelude.{◌≡◌, ◌≤◌, ◌<◌, ◌^◌, ℕ, [], Some, map, option_and_then};
 ghost use Rattle.serde_json.specs.Find.{get, as_str};
 ghost use Rattle.serde_json.specs.View.{view};
 ghost use Rattle.chain_file.specs.Matches as spec;
 ghost use Rattle.chain_file.specs.Spelling.{prefix_of};
-ghost use Rattle.chain_file.specs.Values.{number_in};
+ghost use Rattle.chain_file.specs.Values.{number_in, only};
 
 use crate::fault::Cause;
 use crate::judged::{Judged, first_of, unless};
 use crate::spelling::prefix;
 use crate::values::{number_in, only};
-use onvm_base::{MAX_VLAN, Prefix, Tests};
+use onvm_base::{MAX_PORTS, MAX_VLAN, Prefix, Tests};
 use serde_json::Value;
 
 // The last of the ports that any plan may have.
-const LAST_PORT: u64 = 3;
+const LAST_PORT: u64 = MAX_PORTS as u64 - 1;
 
 /// A match object.
 #[tactic(auto, unfolding(crate::specs::Matches::tests_in))]
@@ -29,23 +29,9 @@ pub fn tests_in(tree: &Value) -> Judged<Tests>
     let dst = prefix_under(tree, "dst");
     let src_ports = ports_under(tree, "src_ports");
     let dst_ports = ports_under(tree, "dst_ports");
-    let keys = only(
-        tree,
-        &[
-            "port",
-            "vlan",
-            "type",
-            "src",
-            "dst",
-            "protocol",
-            "src_ports",
-            "dst_ports",
-        ],
-        &[],
-    );
     Judged {
         cause: first_of(&[
-            keys,
+            keys_cause(tree),
             port.cause,
             vlan.cause,
             ethertype.cause,
@@ -66,6 +52,26 @@ pub fn tests_in(tree: &Value) -> Judged<Tests>
             dst_ports: dst_ports.value,
         },
     }
+}
+
+// What is wrong with the keys of a match object.
+fn keys_cause(tree: &Value) -> Option<Cause>
+    ensures { result ≡ only spec.test_keys [] (view tree.now) }
+{
+    only(
+        tree,
+        &[
+            "port",
+            "vlan",
+            "type",
+            "src",
+            "dst",
+            "protocol",
+            "src_ports",
+            "dst_ports",
+        ],
+        &[],
+    )
 }
 
 fn byte_test(tree: &Value, key: &str, last: u64) -> Judged<Option<u8>>

@@ -1,9 +1,9 @@
 //! The top object.
-ghost use Rattle.std.specs.Prelude.{◌≡◌, ◌≤◌, option_and_then};
+ghost use Rattle.std.specs.Prelude.{◌≡◌, ◌≤◌, [], option_and_then};
 ghost use Rattle.serde_json.specs.Find.{get};
 ghost use Rattle.serde_json.specs.View.{view};
 ghost use Rattle.chain_file.specs.Top as spec;
-ghost use Rattle.chain_file.specs.Values.{name_at};
+ghost use Rattle.chain_file.specs.Values.{name_at, only};
 
 use crate::fault::Cause;
 use crate::judged::{Judged, first_of, unless};
@@ -82,7 +82,42 @@ pub fn top(tree: &Value, captures: u8) -> Judged<Sizes>
     ensures ports { 1 ≤ result.value.ports }
     ensures cores { 1 ≤ result.value.cores }
 {
-    let keys = only(
+    let roles = roles_of(tree, captures);
+    let rings = rings_of(tree);
+    let times = times_of(tree);
+    let lists = lists_cause(tree);
+    let rings_value = rings.value;
+    Judged {
+        cause: first_of(&[
+            keys_cause(tree),
+            roles.cause,
+            rings.cause,
+            times.cause,
+            lists,
+        ]),
+        value: Sizes {
+            version: roles.value.version,
+            ports: roles.value.ports,
+            transmit: roles.value.transmit,
+            cores: roles.value.cores,
+            buffers: rings_value.buffers,
+            ring: rings_value.ring,
+            output: rings_value.output,
+            burst: rings_value.burst,
+            high: rings_value.high,
+            low: rings_value.low,
+            age: times.value.age,
+            window: times.value.window,
+            tick: times.value.tick,
+        },
+    }
+}
+
+// What is wrong with the keys of the top object.
+fn keys_cause(tree: &Value) -> Option<Cause>
+    ensures { result ≡ only spec.top_keys [] (view tree.now) }
+{
+    only(
         tree,
         &[
             "version",
@@ -104,30 +139,7 @@ pub fn top(tree: &Value, captures: u8) -> Judged<Sizes>
             "default",
         ],
         &[],
-    );
-    let roles = roles_of(tree, captures);
-    let rings = rings_of(tree);
-    let times = times_of(tree);
-    let lists = lists_cause(tree);
-    let rings_value = rings.value;
-    Judged {
-        cause: first_of(&[keys, roles.cause, rings.cause, times.cause, lists]),
-        value: Sizes {
-            version: roles.value.version,
-            ports: roles.value.ports,
-            transmit: roles.value.transmit,
-            cores: roles.value.cores,
-            buffers: rings_value.buffers,
-            ring: rings_value.ring,
-            output: rings_value.output,
-            burst: rings_value.burst,
-            high: rings_value.high,
-            low: rings_value.low,
-            age: times.value.age,
-            window: times.value.window,
-            tick: times.value.tick,
-        },
-    }
+    )
 }
 
 fn roles_of(tree: &Value, captures: u8) -> Judged<Roles>

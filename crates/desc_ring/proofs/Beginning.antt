@@ -1,20 +1,19 @@
 -- Ends of a token that has moved nothing by them yet.
-use Rattle.std.proofs.Common.{◌≡◌, ℕ, ◌%◌, ◌<◌, List, [], length, sym, ap, ◌∙◌, subst, refl, arith}
+use Rattle.std.proofs.Common.{◌≡◌, ℕ, ◌<◌, List, [], length, sym, ap, subst, refl, arith}
 use Rattle.std.specs.Prelude.{min}
 use Rattle.std.proofs.Math.Nat.{zero-mod}
 use Rattle.onvm_base.specs.declared.ids.RingId.{RingId}
 use Rattle.onvm_base.specs.declared.ids.RingId.TheVariants.{Lane, Output, Mail as MailRing}
 use Rattle.onvm_core.specs.declared.layout.Layout.{Layout}
 use Rattle.onvm_core.specs.declared.step.Item.{Item}
-use Rattle.onvm_core.specs.Layouts.{IsRing, IsLayout, IsFeeder, ring_size, producer, consumer}
+use Rattle.onvm_core.specs.Layouts.{IsRing, IsLayout, IsFeeder, ring_size}
 use Rattle.onvm_core.specs.Potential.{pushed_in, popped_in}
 use Rattle.onvm_board.specs.Addresses.{feeder_count}
 use Rattle.onvm_board.specs.Spots.{start_spot}
-use Rattle.onvm_board.specs.Tokens.{BoardView, TokenView, StandsAt, IsTail, IsHead, IsBufferRing, IsMailRing}
+use Rattle.onvm_board.specs.Tokens.{BoardView, TokenView, StandsAt, IsBufferRing, IsMailRing}
 use Rattle.desc_ring.specs.declared.tail.Tail.{Tail}
 use Rattle.desc_ring.specs.declared.head.Head.{Head}
 use Rattle.desc_ring.specs.declared.mail.Mail.{Mail}
-use Rattle.desc_ring.specs.Ends.{IsTailOf, IsHeadOf, IsMailTail, IsMailHead}
 use Rattle.desc_ring.specs.Arrays.{AreNew, AreEnds, AreLanes, AreLaneHeads, AreOutputs, AreHeads, AreMailTails, AreMailHeads, IsTailAt, IsHeadAt, IsMailTailAt, IsMailHeadAt, lane_from, lane_to, output_of, mail_of, new_tail, new_head, new_mail}
 
 some_size : (layout : Layout) (ring : RingId) → IsLayout layout → 0 < ring_size layout ring

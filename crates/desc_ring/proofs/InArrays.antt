@@ -1,12 +1,12 @@
 -- Arrays of ends, as their token's log grows.
-use Rattle.std.proofs.Common.{◌≡◌, ℕ, ◌<◌, inl, inr, Bool, true, false, List, [], ◌∷◌, ◌++◌, length, sym, ap, ◌∙◌, subst, refl, arith}
-use Rattle.std.specs.Prelude.{◌≢◌, ◌==◌, ◌&&◌, slice_set, slice_index_or}
+use Rattle.std.proofs.Common.{◌≡◌, ℕ, ◌<◌, inl, inr, Bool, true, false, List, [], sym, ap, ◌∙◌, subst, refl, arith}
+use Rattle.std.specs.Prelude.{◌≢◌, ◌==◌, ◌&&◌, slice_set}
 use Rattle.std.proofs.lemmas.Bool.{ne_eqb}
 use Rattle.std.proofs.lemmas.Bool.Decides.{eqb_tells}
 use Rattle.std.proofs.lemmas.List.{length-set, get_or-set_other}
 use Rattle.std.proofs.lemmas.Grind.{get_or-set_at}
 use Rattle.onvm_base.specs.declared.ids.RingId.{RingId}
-use Rattle.onvm_core.specs.Layouts.{IsRing, IsLayout, same_ring, ring_size, producer, consumer}
+use Rattle.onvm_core.specs.Layouts.{same_ring}
 use Rattle.onvm_core.specs.Logs.{Log}
 use Rattle.onvm_core.specs.Potential.{pushed_in, popped_in}
 use Rattle.onvm_board.specs.Rule.{Hand}

@@ -1,5 +1,5 @@
 -- An end after its push or pop.
-use Rattle.std.proofs.Common.{◌≡◌, ap, sym, ◌∙◌, subst, ℕ}
+use Rattle.std.proofs.Common.{◌≡◌, ap, sym, ◌∙◌, subst}
 use Rattle.onvm_core.specs.declared.step.Item.{Item}
 use Rattle.onvm_core.specs.declared.step.Act.TheVariants.{Push, Pop}
 use Rattle.onvm_core.specs.Layouts.{ring_size}

@@ -29,16 +29,16 @@ zeros_leave site port n before after grew = record {
   heads = λ spot. head_grown site spot (zero_looks port n) [] before after grew (zeros_pop spot.ring port n);
 }
 
-pub look_leaves : (site : BoardView) (word : Word) (seen : ℕ) (told : Option Record) (before after : TokenView)
+pub look_leaves : {word : Word} {seen : ℕ} {told : Option Record} (site : BoardView) (before after : TokenView)
     → MakesStep site (Look word seen told) before after → LeavesEnds site before after
-look_leaves site word seen told before after made = record {
+look_leaves {word} {seen} {told} site before after made = record {
   tails = λ spot is. tail_kept site spot (Look word seen told) before after refl is made;
   heads = λ spot is. head_kept site spot (Look word seen told) before after refl is made;
 }
 
-pub take_leaves : (site : BoardView) (buf : BufId) (before after : TokenView) → MakesStep site (Take buf) before after
+pub take_leaves : {buf : BufId} (site : BoardView) (before after : TokenView) → MakesStep site (Take buf) before after
     → LeavesEnds site before after
-take_leaves site buf before after made = record {
+take_leaves {buf} site before after made = record {
   tails = λ spot is. tail_kept site spot (Take buf) before after refl is made;
   heads = λ spot is. head_kept site spot (Take buf) before after refl is made;
 }

@@ -1,3 +1,4 @@
+pub mod Examples
 pub mod Masks
 pub mod Places
 pub mod Registry

@@ -8,6 +8,8 @@
 mod masks;
 mod registry;
 mod tables;
+#[cfg(test)]
+mod tests;
 
 pub use registry::Registry;
 pub use tables::FnList;

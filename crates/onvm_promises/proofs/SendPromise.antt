@@ -56,8 +56,8 @@ mark_free setting role (act ∷ made) are = by_act act are.0 (mark_free setting 
     )
 
 tells_more : (setting : Setting) (role : ℕ) (made moves : Log) (answer : Pass) → how_many is_moved made ≡ 0
-    → Tells answer (how_many is_moved moves) (IsIdleSender setting role moves)
-    → Tells answer (how_many is_moved (moves ++ made)) (IsIdleSender setting role (moves ++ made))
+    → Tells answer (how_many is_moved moves) (IsIdleSender setting role moves) ⊥
+    → Tells answer (how_many is_moved (moves ++ made)) (IsIdleSender setting role (moves ++ made)) ⊥
 tells_more setting role made moves (Did n) none tells =
     let sum = how_many-append is_moved moves made in
     let was = tells.1 in
@@ -67,7 +67,7 @@ tells_more setting role made moves Idle none tells =
     let was = tells.0 in
     (omega (arith, sum, none, was), λ f reads. dry_more (Output f) moves made (tells.1 f reads))
 tells_more setting role made moves Wanting none tells = tt
-tells_more setting role made moves Stopped none tells = tt
+tells_more setting role made moves Stopped none tells = tells
 
 -- what a pass of marks and moves tells comes to what is kept
 abbrev pub keeps_more : (now : ℕ) (made moves : Log) → FeederKeeps → FeederKeeps
@@ -90,7 +90,7 @@ module _ (setting : Setting) (role now : ℕ) (moment : ℕ → ℕ) (before mad
     (follows : SendsFrom setting role Free moves) (free : send_phase_from Free moves ≡ Free)
     (few : (f : FnId) → how_many (is_pop_of (Output f)) moves ≤ setting.plan.burst)
     (drained : (f : FnId) → Reads setting role f → IsDrained (Output f) setting.plan.burst moves)
-    (tells : Tells answer (how_many is_moved moves) (IsIdleSender setting role moves))
+    (tells : Tells answer (how_many is_moved moves) (IsIdleSender setting role moves) ⊥)
   where
     abbrev then_ : ℕ → ℕ
     then_ = moment_then moment (length before) now

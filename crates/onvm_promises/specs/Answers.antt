@@ -1,10 +1,9 @@
 -- What the answer of a pass tells.
-use Rattle.std.specs.Prelude.{ℕ, ◌≡◌, ◌<◌, ◌⊎◌, Bool, true, false, not, ◌==◌, ◌&&◌, length}
+use Rattle.std.specs.Prelude.{ℕ, ◌≡◌, ◌<◌, ◌⊎◌, Bool, true, false, length}
 use Rattle.onvm_base.specs.declared.ids.FnId.{FnId}
 use Rattle.onvm_base.specs.declared.ids.RingId.TheVariants.{Lane, Output}
-use Rattle.onvm_core.specs.declared.layout.Word.TheVariants.{Cell}
 use Rattle.onvm_core.specs.declared.step.Act.{Act}
-use Rattle.onvm_core.specs.declared.step.Act.TheVariants.{Push, Pop, Look}
+use Rattle.onvm_core.specs.declared.step.Act.TheVariants.{Push, Pop}
 use Rattle.onvm_core.specs.Handling.{IsOwn}
 use Rattle.onvm_core.specs.Logs.{Log, Setting, entries_of_port}
 use Rattle.onvm_core.specs.Places.{how_many}
@@ -12,7 +11,7 @@ use Rattle.onvm_core.specs.Receiving.{done_count, receive_phase}
 use Rattle.onvm_core.specs.Sending.{Reads}
 use Rattle.onvm_promises.specs.declared.pass.Pass.{Pass}
 use Rattle.onvm_promises.specs.declared.pass.Pass.TheVariants.{Did, Idle, Wanting, Stopped}
-use Rattle.onvm_promises.specs.Passes.{ran_dry}
+use Rattle.onvm_promises.specs.Passes.{ran_dry, saw_full}
 use Rattle.onvm_core.specs.Layouts.{feeder_count}
 
 -- the pass wasn't cut short
@@ -22,13 +21,13 @@ is_complete Idle = true
 is_complete Wanting = false
 is_complete Stopped = false
 
--- the answer tells this number of frames with a block, handled or moved, or of samples and ticks, and Idle comes only
--- without one, where there was nothing to do
-abbrev pub Tells : Pass → ℕ → Type 0 → Type 0
-Tells (Did n) work idle = (0 < n) × (n ≡ work)
-Tells Idle work idle = (work ≡ 0) × idle
-Tells Wanting work idle = Unit {0}
-Tells Stopped work idle = Unit {0}
+-- the answer tells this number of frames with a block, handled or moved, or of samples and ticks. Idle comes only without
+-- one, where there was nothing to do, and Stopped only of a role that may stop
+abbrev pub Tells : Pass → ℕ → (idle may_stop : Type 0) → Type 0
+Tells (Did n) work idle may_stop = (0 < n) × (n ≡ work)
+Tells Idle work idle may_stop = (work ≡ 0) × idle
+Tells Wanting work idle may_stop = Unit {0}
+Tells Stopped work idle may_stop = may_stop
 
 -- a frame was handled, by a core; and one was moved, by a transmit role
 
@@ -50,10 +49,6 @@ IsIdleReceiver setting port log =
 -- each output ring that the role reads was found empty
 abbrev pub IsIdleSender : Setting → (role : ℕ) → Log → Type 0
 IsIdleSender setting role added = (f : FnId) → Reads setting role f → ran_dry (Output f) added ≡ true
-
-abbrev pub saw_full : FnId → Act → Bool
-saw_full f (Look (Cell (Output g) at) seen told) = (g.0 == f.0) && not (seen == 0)
-saw_full f _ = false
 
 -- of each function of the core the output ring was found full, or each lane empty
 abbrev pub IsIdleCore : Setting → (role : ℕ) → Log → Type 0

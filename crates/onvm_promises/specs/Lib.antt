@@ -1,5 +1,6 @@
 pub mod Acts
 pub mod Answers
+pub mod Entries
 pub mod Follows
 pub mod Kept
 pub mod Lines

@@ -1,5 +1,5 @@
 -- What a whole pass of a role adds to the role's log, from the role's own view alone.
-use Rattle.std.specs.Prelude.{ℕ, suc, ◌≡◌, ◌≢◌, ◌+◌, ◌<◌, ◌≤◌, ◌⊎◌, min, Bool, true, false, ◌==◌, nat_lt, if◌then◌else◌, [], ◌∷◌, ◌++◌, length, Option, None}
+use Rattle.std.specs.Prelude.{ℕ, suc, ◌≡◌, ◌≢◌, ◌+◌, ◌<◌, ◌≤◌, ◌⊎◌, min, Bool, true, false, not, ◌==◌, ◌&&◌, nat_lt, if◌then◌else◌, [], ◌∷◌, ◌++◌, length, Option, None}
 use Rattle.onvm_base.specs.declared.ids.FnId.{FnId}
 use Rattle.onvm_base.specs.declared.ids.RingId.{RingId}
 use Rattle.onvm_base.specs.declared.ids.RingId.TheVariants.{Lane, Output, Mail}
@@ -108,6 +108,11 @@ is_mailed f (Push (Mail g) item) = g.0 == f.0
 is_mailed f (Full (Mail g)) = g.0 == f.0
 is_mailed f _ = false
 
+-- a look that found no room
+abbrev pub saw_full : FnId → Act → Bool
+saw_full f (Look (Cell (Output g) at) seen told) = (g.0 == f.0) && not (seen == 0)
+saw_full f _ = false
+
 -- the function was served once: from a look at its weight word until one of the three ends
 pub record IsServed (setting : Setting) (f : FnId) (before added : Log) : Type 0 where
   pub earlier : Log
@@ -119,6 +124,8 @@ pub record IsServed (setting : Setting) (f : FnId) (before added : Log) : Type 0
   -- the function has no other look and no other try in this pass
   pub once : how_many (is_weight_look f) service ≡ 0
   pub alone : how_many (is_service_act f) later + how_many (is_service_act f) earlier ≡ 0
+  -- at most one look of the pass finds no room
+  pub barred_once : how_many (saw_full f) added ≤ 1
   -- and what it handles and mails stands behind, but for a parcel that was in hand
   pub behind : core_hand before ≡ None
       → how_many (is_push_on (Output f)) earlier + how_many (is_mailed f) earlier ≡ 0

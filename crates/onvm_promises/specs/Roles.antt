@@ -43,7 +43,7 @@ pub record IsReceivePromise (setting : Setting) (port now : ℕ) (moment : ℕ �
   pub whole : is_complete answer ≡ true
       → IsReceivePass setting port (aged_by setting port (moment_then moment (length before) now) after) before added
   pub tells : Tells answer (done_count (receive_phase setting after) - done_count (receive_phase setting before))
-      (IsIdleReceiver setting port after)
+      (IsIdleReceiver setting port after) (Unit {0})
 
 -- A receive role knows of the run's frames those that it pulled. Its promise is for each setting of its layout and plan
 -- in which its port's frames begin with these, and, once the capture's end was seen, are just these
@@ -68,7 +68,7 @@ pub record IsSendPromise (setting : Setting) (role now : ℕ) (moment : ℕ → 
   pub so_far : IsSenderSoFar setting role (moment_then moment (length before) now) after keeps
   pub whole : is_complete answer ≡ true
       → IsSendPass setting role (aged_by setting role (moment_then moment (length before) now) after) before added
-  pub tells : Tells answer (how_many is_moved added) (IsIdleSender setting role added)
+  pub tells : Tells answer (how_many is_moved added) (IsIdleSender setting role added) ⊥
 
 -- a role that knows no frames promises for any
 abbrev pub setting_of : Layout → Plan → List Entry → Setting
@@ -106,7 +106,7 @@ pub record IsCorePromise {S : Type 0} (acts : ℕ → S → Handling → S → T
   pub first : HandsFirst (core_hand before) added
   pub so_far : IsCoreSoFar acts start state cost_may_take setting role hand after keeps
   pub whole : is_complete answer ≡ true → (hand ≡ None) × IsCorePass setting role before added
-  pub tells : Tells answer (how_many is_handled added) (IsIdleCore setting role added)
+  pub tells : Tells answer (how_many is_handled added) (IsIdleCore setting role added) ⊥
 
 -- The tick role
 
@@ -132,4 +132,4 @@ pub record IsTickPromise (setting : Setting) (role first now : ℕ) (closing : B
   pub whole : is_complete answer ≡ true → IsTickPass setting role before added
   pub tells : Tells answer
       (length (kept_now samples_by now added)
-      + length (ticks_of_pass setting.plan first now closing samples ticks answer)) (Unit {0})
+      + length (ticks_of_pass setting.plan first now closing samples ticks answer)) (Unit {0}) ⊥

@@ -97,6 +97,7 @@ core_served = record {
   ends = inr (inr (OneEmpty f 1 1 _ refl (OneEmpty f 0 0 _ refl (NoEmpty _))));
   once = refl;
   alone = refl;
+  barred_once = omega arith;
   behind = λ none. refl;
 }
 
@@ -114,6 +115,7 @@ core_is = record {
     );
     hand = refl;
     tries = (refl, (refl, (tt, (tt, tt))));
+    looks = (tt, (tt, (refl, (tt, tt))));
     samples = (tt, (tt, (tt, (tt, tt))));
     sampled = λ g mine. refl;
   };

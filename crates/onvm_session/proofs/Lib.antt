@@ -1,6 +1,9 @@
 pub mod Accounted
 pub mod Closing
 pub mod Done
+pub mod ExampleAccount
+pub mod ExampleSteps
+pub mod ExampleTurns
 pub mod IdleAccount
 pub mod IdleRound
 pub mod IdleRun
@@ -21,3 +24,4 @@ pub mod Stepping
 pub mod TickTurns
 pub mod Turning
 pub mod Weaving
+pub mod WrongRuns

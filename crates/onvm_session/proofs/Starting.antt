@@ -51,7 +51,7 @@ role_starts acts start cost_may_take setting role Sends moment other = record {
 }
 role_starts acts start cost_may_take setting role Handles moment other = (
   record {
-    rests = record { blocks = tt; hand = refl; tries = tt; samples = tt; sampled = λ f own. refl };
+    rests = record { blocks = tt; hand = refl; tries = tt; looks = tt; samples = tt; sampled = λ f own. refl };
     timed = tt;
     journals = λ f own. refl;
     kept = record { yields = refl; lost = refl };

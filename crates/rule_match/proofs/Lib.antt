@@ -1,1 +1,3 @@
+pub mod Parted
 pub mod Picked
+pub mod Sifted

@@ -5,6 +5,8 @@
 #![tactic(auto)]
 
 mod moves;
+#[cfg(test)]
+mod tests;
 
 pub use moves::{enter, step};
 pub use onvm_base::Move;

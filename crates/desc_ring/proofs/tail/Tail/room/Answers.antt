@@ -1,4 +1,3 @@
-use Rattle.std.proofs.Common.{ap}
 use Rattle.desc_ring.proofs.Shown.{room_by_end, full_by_end}
 use Rattle.desc_ring.proofs.tail.Tail.room.Goals as goal
 
