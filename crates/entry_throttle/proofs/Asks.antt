@@ -34,7 +34,8 @@ one_asked site mask feeder seen frame before between after until free made = rec
   free = (free, until.free);
   grew =
       made.grew
-      ∙ ap (λ (o : Option Record). token_after (Look (Post feeder) seen o) between) (records_none mask feeder seen frame free)
+      ∙ ap (λ (o : Option Record). token_after (Look (Post feeder) seen o) between)
+      (records_none mask feeder seen frame free)
       ∙ ap (λ (z : ℕ × TokenView). token_after (Look (Post z.0) seen None) z.1) (λ i. (sym until.all i, until.grew i));
 }
 
@@ -52,6 +53,7 @@ held_back site mask feeder seen frame before between after until more made = rec
   lowest = lowest_held mask seen more;
   grew =
       made.grew
-      ∙ ap (λ (o : Option Record). token_after (Look (Post feeder) seen o) between) (records_some mask feeder seen frame more)
+      ∙ ap (λ (o : Option Record). token_after (Look (Post feeder) seen o) between)
+      (records_some mask feeder seen frame more)
       ∙ ap (token_after (Look (Post feeder) seen (Some (throttle_record frame feeder mask seen)))) until.grew;
 }

@@ -8,7 +8,8 @@ use Rattle.onvm_base.specs.declared.outcome.Record.{Record}
 use Rattle.onvm_core.specs.declared.entry.Entry.{Entry}
 use Rattle.onvm_core.specs.declared.layout.Word.TheVariants.{Post}
 use Rattle.onvm_core.specs.declared.step.Act.TheVariants.{Look}
-use Rattle.onvm_core.specs.Logs.{Setting, Log, feeder_count, entry_after}
+use Rattle.onvm_core.specs.Layouts.{feeder_count}
+use Rattle.onvm_core.specs.Logs.{Setting, Log, entry_after}
 use Rattle.onvm_core.specs.Receiving.{MayAsk, MayReceiveFor, ReceivePhase, done_count, receive_after}
 use Rattle.onvm_core.specs.Receiving.ReceivePhase.{Between, Asks, Seeks}
 use Rattle.onvm_core.proofs.Lists.{if_met, if_unmet}
@@ -50,7 +51,8 @@ pub grown_by_asks : (values : List ℕ) (token : TokenView)
     → token_after_asks values token ≡ grown (log_after_asks values []) token.hand token
 grown_by_asks [] token = refl
 grown_by_asks (seen ∷ before) token =
-    ap (λ (t : TokenView). record t { log = Look (Post (length before)) seen None ∷ t.log }) (grown_by_asks before token)
+    ap (λ (t : TokenView). record t { log = Look (Post (length before)) seen None ∷ t.log })
+    (grown_by_asks before token)
 
 -- they record nothing
 asks_record_none : (values : List ℕ) → kept_now records_by 0 (log_after_asks values []) ≡ []
@@ -67,30 +69,30 @@ pub record IsAdmission (setting : Setting) (port done : ℕ) (records : List Rec
   pub recorded : kept_now records_by 0 added ≡ records
 
 module _ (setting : Setting) (port done : ℕ) where
-  asks_left : (k : ℕ) → suc k < feeder_count setting → ask_phase setting done (suc k) ≡ Asks done (suc k)
+  asks_left : (k : ℕ) → suc k < feeder_count setting.layout → ask_phase setting done (suc k) ≡ Asks done (suc k)
   asks_left k less =
-      if_unmet (suc k == feeder_count setting) (Seeks done 0) (Asks done (suc k))
-      (ne_eqb (suc k) (feeder_count setting) (λ e. omega (arith, e, less)))
+      if_unmet (suc k == feeder_count setting.layout) (Seeks done 0) (Asks done (suc k))
+      (ne_eqb (suc k) (feeder_count setting.layout) (λ e. omega (arith, e, less)))
 
-  ask_on : (k seen : ℕ) → k < feeder_count setting
+  ask_on : (k seen : ℕ) → k < feeder_count setting.layout
       → receive_after setting (ask_phase setting done k) (Look (Post k) seen None) ≡ ask_phase setting done (suc k)
   ask_on zero seen less = refl
   ask_on (suc k) seen less =
       ap (λ (p : ReceivePhase). receive_after setting p (Look (Post (suc k)) seen None)) (asks_left k less)
-      ∙ ap (λ (n : ℕ). if n == feeder_count setting then Seeks done 0 else Asks done n)
+      ∙ ap (λ (n : ℕ). if n == feeder_count setting.layout then Seeks done 0 else Asks done n)
       (let e : suc k + 1 ≡ suc (suc k) = omega arith in e)
 
-  held_on : (k seen : ℕ) (told : Record) → k < feeder_count setting
+  held_on : (k seen : ℕ) (told : Record) → k < feeder_count setting.layout
       → receive_after setting (ask_phase setting done k) (Look (Post k) seen (Some told)) ≡ Between (done + 1)
   held_on zero seen told less = refl
   held_on (suc k) seen told less =
       ap (λ (p : ReceivePhase). receive_after setting p (Look (Post (suc k)) seen (Some told))) (asks_left k less)
 
-  done_asks : (k : ℕ) → k < feeder_count setting → done_count (ask_phase setting done k) ≡ done
+  done_asks : (k : ℕ) → k < feeder_count setting.layout → done_count (ask_phase setting done k) ≡ done
   done_asks zero less = refl
   done_asks (suc k) less = ap done_count (asks_left k less)
 
-  may_for : (e : Entry) (k seen : ℕ) (told : Option Record) → k < feeder_count setting
+  may_for : (e : Entry) (k seen : ℕ) (told : Option Record) → k < feeder_count setting.layout
       → MayAsk setting e k (Post k) seen told
       → MayReceiveFor setting port e (ask_phase setting done k) (Look (Post k) seen told)
   may_for e zero seen told less may = may
@@ -98,7 +100,7 @@ module _ (setting : Setting) (port done : ℕ) where
       subst (λ (p : ReceivePhase). MayReceiveFor setting port e p (Look (Post (suc k)) seen told))
       (sym (asks_left k less)) may
 
-  may_in : (e : Entry) (k seen : ℕ) (told : Option Record) → k < feeder_count setting
+  may_in : (e : Entry) (k seen : ℕ) (told : Option Record) → k < feeder_count setting.layout
       → entry_after setting port done ≡ Some e → MayAsk setting e k (Post k) seen told
       → MayReceiveIn setting port (ask_phase setting done k) (Look (Post k) seen told)
   may_in e k seen told less entry may =
@@ -108,7 +110,7 @@ module _ (setting : Setting) (port done : ℕ) where
         may_for e k seen told less may,
       )
 
-  asks_stand : (values : List ℕ) → length values ≤ feeder_count setting
+  asks_stand : (values : List ℕ) → length values ≤ feeder_count setting.layout
       → receive_phase_from setting (Between done) (log_after_asks values []) ≡ ask_phase setting done (length values)
   asks_stand [] fits = refl
   asks_stand (seen ∷ before) fits =
@@ -117,7 +119,7 @@ module _ (setting : Setting) (port done : ℕ) where
       ∙ ask_on (length before) seen (omega (arith, fits))
 
   asks_follow : (e : Entry) (mask : ℕ) (values : List ℕ) → entry_after setting port done ≡ Some e
-      → IsMaskOf setting e mask → length values ≤ feeder_count setting → AreWithout mask values
+      → IsMaskOf setting e mask → length values ≤ feeder_count setting.layout → AreWithout mask values
       → ReceivesFrom setting port (Between done) (log_after_asks values [])
   asks_follow e mask [] entry of fits free = tt
   asks_follow e mask (seen ∷ before) entry of fits free = (
@@ -130,25 +132,29 @@ module _ (setting : Setting) (port done : ℕ) where
 
   -- every post was looked at, and a buffer is sought next
   pub admitted : (e : Entry) (mask : ℕ) (before after : TokenView) → entry_after setting port done ≡ Some e
-      → IsMaskOf setting e mask → 0 < feeder_count setting → FoundNone (feeder_count setting) mask before after
+      → IsMaskOf setting e mask → 0 < feeder_count setting.layout
+      → FoundNone (feeder_count setting.layout) mask before after
       → IsAdmission setting port done [] (Seeks done 0) before after
   admitted e mask before after entry of some found =
-      let all : length found.values ≡ feeder_count setting = found.all in record {
+      let all : length found.values ≡ feeder_count setting.layout = found.all in record {
         added = log_after_asks found.values [];
         grew = found.grew ∙ grown_by_asks found.values before;
         follows = asks_follow e mask found.values entry of (omega (arith, all)) found.free;
-        stands = asks_stand found.values (omega (arith, all)) ∙ ap (ask_phase setting done) all ∙ last (feeder_count setting) refl some;
+        stands = asks_stand found.values (omega (arith, all)) ∙ ap (ask_phase setting done) all
+            ∙ last (feeder_count setting.layout) refl some;
         recorded = asks_record_none found.values;
       }
     where
-      last : (n : ℕ) → n ≡ feeder_count setting → 0 < n → ask_phase setting done n ≡ Seeks done 0
+      last : (n : ℕ) → n ≡ feeder_count setting.layout → 0 < n → ask_phase setting done n ≡ Seeks done 0
       last zero e some = absurd (omega (arith, some))
       last (suc n) e some =
-          if_met (suc n == feeder_count setting) (Seeks done 0) (Asks done (suc n)) (eq-eqb (suc n) (feeder_count setting) e)
+          if_met (suc n == feeder_count setting.layout) (Seeks done 0) (Asks done (suc n)) (eq-eqb (suc n)
+          (feeder_count setting.layout) e)
 
   -- the frame was held back: it is recorded, and its block has ended
-  pub held : (e : Entry) (mask feeder post function : ℕ) (before after : TokenView) → entry_after setting port done ≡ Some e
-      → IsMaskOf setting e mask → feeder < feeder_count setting
+  pub held : (e : Entry) (mask feeder post function : ℕ) (before after : TokenView)
+      → entry_after setting port done ≡ Some e
+      → IsMaskOf setting e mask → feeder < feeder_count setting.layout
       → IsHeldBack e.frame mask feeder post function before after
       → IsAdmission setting port done (held_record e.frame feeder post function ∷ []) (Between (done + 1)) before after
   held e mask feeder post function before after entry of below is =
@@ -193,7 +199,8 @@ feeder_admitted board feeder frame mask feeders before after (Hold p post f) is 
     let held = is.1 in
     let told : Record = held_record frame p post f.0 in
     let leave = asks_leave feeder.number held.values in
-    feeder_grown board feeder (Look (Post p) held.seen (Some told) ∷ log_after_asks held.values []) before.hand before after
+    feeder_grown board feeder (Look (Post p) held.seen (Some told) ∷ log_after_asks held.values []) before.hand
+    before after
     (held.grew
     ∙ ap (λ (t : TokenView). record t { log = Look (Post p) held.seen (Some told) ∷ t.log })
     (grown_by_asks held.values before))

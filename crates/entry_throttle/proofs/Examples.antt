@@ -98,7 +98,8 @@ sizes_are =
       tick = (omega arith, omega arith);
     }
 
-pub is_plan : (functions : List FunctionPlan) (chains : List ChainPlan) (rules : List RulePlan) → functions ≡ one_function
+pub is_plan : (functions : List FunctionPlan) (chains : List ChainPlan) (rules : List RulePlan) → functions
+    ≡ one_function
     → length chains ≡ 1 → All (IsChainPlan 1 one_function) chains → rules ≡ []
     → IsPlan sizes functions chains rules (record { 0 = 0 })
 is_plan functions chains rules are one right ruleless =

@@ -130,7 +130,8 @@ module _ (setting : Setting) (feeder : ℕ) (before : Log) (j : ℕ) (found : Pa
   finds_other : (is_high : Bool) (f : ℕ) → j ≢ f → finds is_high f both_added ≡ finds is_high f found
   finds_other is_high f ne =
       finds_both is_high f
-      ∙ ap (λ (t : Bool). t || ((high_made && (is_for is_high f at_high.look && not (seen_high == 0))) || finds is_high f found))
+      ∙ ap (λ (t : Bool). t || ((high_made && (is_for is_high f at_high.look && not
+      (seen_high == 0))) || finds is_high f found))
       (not_for low_made (is_for is_high f at_low.look) (not (seen_low == 0))
       (for_other is_high f j at_low.look.cell false ne))
       ∙ ap (λ (t : Bool). t || finds is_high f found)
@@ -140,11 +141,13 @@ module _ (setting : Setting) (feeder : ℕ) (before : Log) (j : ℕ) (found : Pa
   finds_high : finds true j found ≡ false → finds true j both_added ≡ (high_made && not (seen_high == 0))
   finds_high none_yet =
       finds_both true j
-      ∙ ap (λ (t : Bool). t || ((high_made && (is_for true j at_high.look && not (seen_high == 0))) || finds true j found))
+      ∙ ap (λ (t : Bool). t || ((high_made && (is_for true j at_high.look && not
+      (seen_high == 0))) || finds true j found))
       (and_false low_made)
       ∙ ap (λ (t : Bool). (high_made && (t && not (seen_high == 0))) || finds true j found)
       (for_same true j at_high.look.cell)
-      ∙ one_of (high_made && not (seen_high == 0)) (finds true j found) (high_made && not (seen_high == 0)) refl none_yet
+      ∙ one_of (high_made && not (seen_high == 0)) (finds true j found) (high_made && not
+      (seen_high == 0)) refl none_yet
 
   finds_low : finds false j found ≡ false → finds false j both_added ≡ (low_made && not (seen_low == 0))
   finds_low none_yet =
@@ -188,7 +191,8 @@ pub lane_read : (setting : Setting) (feeder : ℕ) (ages : List PushMoments) (no
     → (high ≡ true → aged ≡ is_aged setting ages now j)
     → HasReadLanes setting feeder ages now (j + 1) old
     (slice_set new j (next_mark (mark_at new j) (record { high = high; low = low; aged = aged }))) before two
-lane_read setting feeder ages now j old new before log one two high low aged below above there read high_look low_look timed =
+lane_read setting feeder ages now j old new before log one two high low aged below above there read high_look
+    low_look timed =
     let ring : RingId = lane j feeder in
     let size : ℕ = setting.layout.ring in
     let found : Pass = read.found in
@@ -202,14 +206,16 @@ lane_read setting feeder ages now j old new before log one two high low aged bel
     let lb : Bool = nat_le setting.plan.low n in
     let one_is : one ≡ acts_of feeder (add hb h_at found) ++ before =
     high_look.grew
-    ∙ ap (λ (m : ℕ). if nat_le setting.plan.high m then Look (Cell ring ((m - setting.plan.high) % size)) seen_high None ∷ log else log) same
+    ∙ ap (λ (m : ℕ). if nat_le setting.plan.high m then Look (Cell ring
+    ((m - setting.plan.high) % size)) seen_high None ∷ log else log) same
     ∙ ap (λ (l : Log). if hb then act_of feeder h_at ∷ l else l) read.grew
     ∙ looks_add hb feeder h_at found before in
     let same_one : push_count ring one ≡ n =
     ap (push_count ring) one_is ∙ looks_push feeder (add hb h_at found) ring before in
     let two_is : two ≡ acts_of feeder (add lb l_at (add hb h_at found)) ++ before =
     low_look.grew
-    ∙ ap (λ (m : ℕ). if nat_le setting.plan.low m then Look (Cell ring ((m - setting.plan.low) % size)) seen_low None ∷ one else one) same_one
+    ∙ ap (λ (m : ℕ). if nat_le setting.plan.low m then Look (Cell ring
+    ((m - setting.plan.low) % size)) seen_low None ∷ one else one) same_one
     ∙ ap (λ (l : Log). if lb then act_of feeder l_at ∷ l else l) one_is
     ∙ looks_add lb feeder l_at (add hb h_at found) before in
     let more : ℕ = setting.layout.functions - (j + 1) in
@@ -222,8 +228,10 @@ lane_read setting feeder ages now j old new before log one two high low aged bel
     let none_high : finds true j found ≡ false = read.later true j (omega arith) in
     let none_low : finds false j found ≡ false = read.later false j (omega arith) in
     let added : Pass = both_added setting feeder before j found seen_high seen_low in
-    let finds_h : finds true j added ≡ high = finds_high setting feeder before j found seen_high seen_low none_high ∙ sym high_is in
-    let finds_l : finds false j added ≡ low = finds_low setting feeder before j found seen_high seen_low none_low ∙ sym low_is in
+    let finds_h : finds true j added ≡ high = finds_high setting feeder before j found seen_high seen_low none_high
+    ∙ sym high_is in
+    let finds_l : finds false j added ≡ low = finds_low setting feeder before j found seen_high seen_low none_low
+    ∙ sym low_is in
     let apart : (is_high : Bool) (f : ℕ) → j ≢ f → finds is_high f added ≡ finds is_high f found =
     finds_other setting feeder before j found seen_high seen_low in
     let value : Mark = next_mark (mark_at new j) (record { high = high; low = low; aged = aged }) in
@@ -254,7 +262,8 @@ lane_read setting feeder ages now j old new before log one two high low aged bel
         | inr (inl lower) ↦ apart is_high f (λ e. omega (arith, e, lower)) ∙ read.few is_high f less
         | inr (inr upper) ↦ apart is_high f (λ e. omega (arith, e, upper)) ∙ read.few is_high f less
       ];
-      later = λ is_high f past. apart is_high f (λ e. omega (arith, e, past)) ∙ read.later is_high f (omega (arith, past));
+      later = λ is_high f past. apart is_high f (λ e. omega (arith, e, past))
+          ∙ read.later is_high f (omega (arith, past));
       judged = λ f under. elim (cases_order j f) [
         | inl e ↦
             subst (λ (g : ℕ). mark_at (slice_set new j value) g ≡ next_mark (mark_at old g) (record {
@@ -263,7 +272,8 @@ lane_read setting feeder ages now j old new before log one two high low aged bel
               aged = is_aged setting ages now g;
             })) e
             (get_or-set_same new j value Calm there
-            ∙ ap (λ (m : Mark). next_mark m (record { high = high; low = low; aged = aged })) (read.others j (omega arith))
+            ∙ ap (λ (m : Mark). next_mark m (record { high = high; low = low; aged = aged })) (read.others j
+            (omega arith))
             ∙ same_mark (mark_at old j) high low aged (is_aged setting ages now j) timed
             ∙ (λ i. next_mark (mark_at old j) (record {
               high = sym finds_h i;
@@ -297,12 +307,14 @@ enough_kept before after f high kept same enough =
 
 -- none before the first lane
 
-pub none_read_yet : (setting : Setting) (feeder : ℕ) (ages : List PushMoments) (now : ℕ) (marks : List Mark) (before : Log)
+pub none_read_yet : (setting : Setting) (feeder : ℕ) (ages : List PushMoments) (now : ℕ) (marks : List Mark)
+    (before : Log)
     → HasReadLanes setting feeder ages now 0 marks marks before before
 none_read_yet setting feeder ages now marks before = record {
   found = [];
   grew = refl;
-  asks = ap (λ (m : ℕ). looks_from setting feeder before 0 m) (let n : ℕ = setting.layout.functions in let e : n - 0 ≡ n = omega arith in e);
+  asks = ap (λ (m : ℕ). looks_from setting feeder before 0 m) (let n : ℕ = setting.layout.functions
+      in let e : n - 0 ≡ n = omega arith in e);
   are_marks = tt;
   few = λ is_high f less. refl;
   later = λ is_high f past. refl;
@@ -312,7 +324,8 @@ none_read_yet setting feeder ages now marks before = record {
 }
 
 -- a look at a lane, by the setting's names
-pub look_like : (ring : RingId) (size own_size k own_k : ℕ) (log after : Log) (found : Bool) → size ≡ own_size → k ≡ own_k
+pub look_like : (ring : RingId) (size own_size k own_k : ℕ) (log after : Log) (found : Bool) → size ≡ own_size
+    → k ≡ own_k
     → LookAdds ring size k (push_count ring log) log after found
     → LookAdds ring own_size own_k (push_count ring log) log after found
 look_like ring size own_size k own_k log after found s e is =
@@ -353,7 +366,8 @@ module _ (old marks : List Mark) (j : ℕ) (mark : Mark) (there : j < length mar
   still_differs : Changed old marks j true → ThrottleOthers old (slice_set marks j mark)
   still_differs is =
       let at : ℕ = is.others.0 in
-      let ne : at ≢ j = λ e. is.others.1 (ap (λ (f : ℕ). is_throttle (mark_at marks f)) e ∙ ap is_throttle (before_here true is)
+      let ne : at ≢ j = λ e. is.others.1 (ap (λ (f : ℕ). is_throttle (mark_at marks f)) e
+      ∙ ap is_throttle (before_here true is)
       ∙ ap (λ (f : ℕ). is_throttle (mark_at old f)) (sym e)) in
       (at, λ e. is.others.1 (sym (ap is_throttle (put_else at ne)) ∙ e))
 

@@ -94,7 +94,8 @@ end_looked board ring (Some spot) before after only leaves is = (is.0, leaves.ta
 pub leaves_all : (board : BoardView) (token : TokenView) → LeavesEnds board token token
 leaves_all board token = record { tails = λ spot is. is; heads = λ spot is. is }
 
-pub leaves_twice : (board : BoardView) (one two three : TokenView) → LeavesEnds board one two → LeavesEnds board two three
+pub leaves_twice : (board : BoardView) (one two three : TokenView) → LeavesEnds board one two
+    → LeavesEnds board two three
     → LeavesEnds board one three
 leaves_twice board one two three x y = record {
   tails = λ spot is. y.tails spot (x.tails spot is);

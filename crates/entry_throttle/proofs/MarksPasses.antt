@@ -5,9 +5,9 @@ use Rattle.std.proofs.lemmas.Bool.{cases_order, eq-eqb, ne_eqb}
 use Rattle.onvm_base.specs.declared.ids.RingId.{RingId}
 use Rattle.onvm_core.specs.declared.step.Act.{Act}
 use Rattle.onvm_core.specs.Logs.{Setting, Log}
-use Rattle.onvm_core.specs.Marks.{Ages, MarkEvents, MarkLook, finds, is_throttled, looks_of_pass, mark_events, pass_count}
-use Rattle.onvm_core.specs.Marks.MarkEvent.{Passed, Posted}
+use Rattle.onvm_core.specs.Marks.{Ages, MarkLook, looks_of_pass, mark_events}
 use Rattle.onvm_core.specs.Potential.{pushed_in}
+use Rattle.onvm_core.proofs.Agreeing.{Agree, throttled_same}
 use Rattle.onvm_core.proofs.Lists.{if_met, if_unmet}
 use Rattle.onvm_board.specs.Tokens.{BoardView, TokenView}
 use Rattle.onvm_promises.specs.Acts.{AreMarkSteps, IsMarkStep}
@@ -15,7 +15,7 @@ use Rattle.onvm_promises.specs.Acts.IsMarkStep.{ALook, APost}
 use Rattle.onvm_promises.specs.Passes.{IsMarksPass}
 use Rattle.onvm_promises.specs.Rests.{IsSettledFeeder}
 use Rattle.onvm_promises.specs.Times.{aged_by, passes_in, reading_time}
-use Rattle.onvm_promises.proofs.Aging.{Agree, feeder_same, marks_pass_same}
+use Rattle.onvm_promises.proofs.Aging.{feeder_same, marks_pass_same}
 use Rattle.onvm_promises.proofs.Timing.{aged_later, aged_now}
 use Rattle.watermark.specs.declared.mark.Mark.{Mark}
 use Rattle.entry_throttle.specs.Feeders.{FeederView, IsReady, MadeMarksPass}
@@ -27,17 +27,6 @@ use Rattle.entry_throttle.proofs.OtherActs.{moments_grown}
 use Rattle.entry_throttle.proofs.PushTimes.{timely_at}
 
 -- marks under answers that agree
-
-throttled_same : (left right : Ages) (f : ℕ) (events : MarkEvents) → Agree left right (pass_count events)
-    → is_throttled left f events ≡ is_throttled right f events
-throttled_same left right f [] agree = refl
-throttled_same left right f (Passed pass ∷ before) agree =
-    ap (λ (b : Bool). finds false f pass && ((finds true f pass && b) || is_throttled left f before))
-    (agree (pass_count before) f (omega arith))
-    ∙ ap (λ (b : Bool). finds false f pass && ((finds true f pass && right (pass_count before) f) || b))
-    (throttled_same left right f before (λ p g less. agree p g (omega (arith, less))))
-throttled_same left right f (Posted value ∷ before) agree = throttled_same left right f before agree
-
 pub marks_same : (setting : Setting) (feeder : ℕ) (left right : Ages) (marks : List Mark) (posts : ℕ) (log : Log)
     → Agree left right (passes_in setting feeder log) → AreMarksOf setting feeder left marks posts log
     → AreMarksOf setting feeder right marks posts log

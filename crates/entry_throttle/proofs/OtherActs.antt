@@ -21,7 +21,8 @@ use Rattle.onvm_board.specs.Rule.{Hand, hand_after}
 use Rattle.onvm_board.specs.Tokens.{BoardView, MakesStep, TokenView, grown}
 use Rattle.onvm_board.proofs.Stretches.{pushed_over, tail_grown}
 use Rattle.desc_ring.proofs.Counts.{push_count_is}
-use Rattle.onvm_promises.proofs.Settling.{AreUnmarked, mark_phase_same}
+use Rattle.onvm_promises.proofs.Settling.{mark_phase_same}
+use Rattle.onvm_promises.proofs.Unmarked.{AreUnmarked}
 use Rattle.watermark.specs.declared.mark.Mark.{Mark}
 use Rattle.watermark.specs.Moments.{last_of}
 use Rattle.entry_throttle.specs.Feeders.{FeederView, IsFeederOf}
@@ -79,7 +80,8 @@ post_count_same word added log unposted = omega (arith, post_count_over word add
 
 -- What a feeder knows of its token
 
-end_grown : (board : BoardView) (ring : RingId) (end : Option Spot) (added : Log) (hand : Hand) (before after : TokenView)
+end_grown : (board : BoardView) (ring : RingId) (end : Option Spot) (added : Log) (hand : Hand)
+    (before after : TokenView)
     → after ≡ grown added hand before → pushed_in ring added ≡ [] → IsOwnEnd board ring end before
     → IsOwnEnd board ring end after
 end_grown board ring None added hand before after grew unpushed is =
@@ -104,7 +106,8 @@ feeder_grown board feeder added hand before after grew leave was =
       ring = was.ring;
       ends = λ f d inside.
           subst (λ (r : ℕ). IsOwnEnd board (lane f r) (slice_index_or feeder.spots f d) after) (sym role)
-          (end_grown board (lane f before.role) (slice_index_or feeder.spots f d) added hand before after grew (unpushed f) (was.ends f d inside));
+          (end_grown board (lane f before.role) (slice_index_or feeder.spots f d) added hand before after grew
+          (unpushed f) (was.ends f d inside));
       enough = λ f d inside.
           enough_same before after f feeder.high (slice_index_or feeder.ages f d)
           (ap (λ (r : ℕ). push_count (lane f r) after.log) role

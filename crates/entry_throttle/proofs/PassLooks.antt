@@ -101,6 +101,7 @@ pub post_paced : (setting : Setting) (feeder value : ℕ) (log : Log) → IsPace
     → IsPaced setting feeder (Post (PostWord feeder) value ∷ log)
 post_paced setting feeder value log paced =
     let now = paced_at setting feeder log paced in
-    let same : blocks_since_pass setting feeder (Post (PostWord feeder) value ∷ log) ≡ blocks_since_pass setting feeder log =
+    let same : blocks_since_pass setting feeder (Post (PostWord feeder) value ∷ log)
+    ≡ blocks_since_pass setting feeder log =
     rw (no_block (receive_phase setting log) (PostWord feeder) value) refl in
     (((λ port. omega (arith, now.0 port, same)), λ f. now.1 f), paced)

@@ -31,7 +31,8 @@ looks_post_none now feeder (x ∷ xs) =
 
 pub made_quiet : (setting : Setting) (aged : Ages) (board : BoardView) (now : ℕ) (feeder new : FeederView)
     (before after : TokenView) → IsReady setting aged board now feeder before
-    → HasReadLanes setting feeder.number feeder.ages now setting.layout.functions feeder.marks new.marks before.log after.log
+    → HasReadLanes setting feeder.number feeder.ages now setting.layout.functions feeder.marks new.marks before.log
+    after.log
     → new.posts ≡ feeder.posts → ThrottleTheSame feeder.marks new.marks ⊎ (LAST_POST ≤ length feeder.posts)
     → MadeMarksPass setting aged now feeder new before after
 made_quiet setting aged board now feeder new before after ready read same quiet =
@@ -58,13 +59,15 @@ bits_fit marks number few = elim (cases_Bool (number == LAST_POST)) [
       let e : posted_bits number (set_of marks) ≡ 0 = if_met (number == LAST_POST) 0 (set_of marks) met in
       omega (arith, e)
   | inr unmet ↦
-      let e : posted_bits number (set_of marks) ≡ set_of marks = if_unmet (number == LAST_POST) 0 (set_of marks) unmet in
+      let e : posted_bits number (set_of marks) ≡ set_of marks = if_unmet (number == LAST_POST) 0
+      (set_of marks) unmet in
       omega (arith, e, set_fits marks few)
 ]
 
 pub made_post : (setting : Setting) (aged : Ages) (board : BoardView) (now : ℕ) (feeder new : FeederView)
     (before between after : TokenView) (number bits value : ℕ) → IsReady setting aged board now feeder before
-    → HasReadLanes setting feeder.number feeder.ages now setting.layout.functions feeder.marks new.marks before.log between.log
+    → HasReadLanes setting feeder.number feeder.ages now setting.layout.functions feeder.marks new.marks before.log
+    between.log
     → length feeder.marks ≤ MAX_FUNCTIONS
     → number ≡ length feeder.posts + 1
     → bits ≡ posted_bits number (set_of new.marks)
@@ -73,7 +76,8 @@ pub made_post : (setting : Setting) (aged : Ages) (board : BoardView) (now : ℕ
     → new.posts ≡ feeder.posts ++ record { feeder = feeder.number; number = number; moment = now; bits = bits } ∷ []
     → ThrottleOthers feeder.marks new.marks → length feeder.posts < LAST_POST
     → MadeMarksPass setting aged now feeder new before after
-made_post setting aged board now feeder new before between after number bits value ready read few number_is bits_is value_is logged kept changed more =
+made_post setting aged board now feeder new before between after number bits value ready read few number_is bits_is
+    value_is logged kept changed more =
     let functions : setting.layout.functions ≤ MAX_FUNCTIONS = omega (arith, few, ready.marks.long) in
     let both =
     posted_pass setting feeder.number aged feeder.ages now feeder.marks new.marks (length feeder.posts) before.log
@@ -94,7 +98,8 @@ made_post setting aged board now feeder new before between after number bits val
           ∙ (λ i. feeder.posts ++ post_kept feeder.number
           (sym (ap (λ (v : ℕ). v / 2 ^ 32) value_is ∙ high_half number bits small) i) now
           (sym (ap (λ (v : ℕ). v % 2 ^ 32) value_is ∙ low_half number bits small) i) ∷ [])
-          ∙ ap (λ (ps : List Post). feeder.posts ++ (ps ++ post_kept feeder.number (value / 2 ^ 32) now (value % 2 ^ 32) ∷ []))
+          ∙ ap (λ (ps : List Post). feeder.posts ++ (ps ++ post_kept feeder.number (value / 2 ^ 32) now
+          (value % 2 ^ 32) ∷ []))
           (sym (looks_post_none now feeder.number read.found));
       pass =
           subst (λ (v : ℕ). IsMarksPass setting feeder.number aged before.log
@@ -119,13 +124,15 @@ read_like setting feeder own ages own_ages now count own_count old own_old new o
     (subst (λ (x : List PushMoments). HasReadLanes setting own x now count old new before after) b
     (subst (λ (x : ℕ). HasReadLanes setting x ages now count old new before after) a read))))
 
-pub alike_like : (changed : Bool) (old own_old new own_new : List Mark) → changed ≡ false → old ≡ own_old → new ≡ own_new
+pub alike_like : (changed : Bool) (old own_old new own_new : List Mark) → changed ≡ false → old ≡ own_old → new
+    ≡ own_new
     → OnFalse changed (ThrottleTheSame old new) → ThrottleTheSame own_old own_new
 alike_like changed old own_old new own_new e a b is =
     let same : ThrottleTheSame old new = subst (λ (c : Bool). OnFalse c (ThrottleTheSame old new)) e is in
     subst (λ (x : List Mark). ThrottleTheSame own_old x) b (subst (λ (x : List Mark). ThrottleTheSame x new) a same)
 
-pub others_like : (changed : Bool) (old own_old new own_new : List Mark) → changed ≡ true → old ≡ own_old → new ≡ own_new
+pub others_like : (changed : Bool) (old own_old new own_new : List Mark) → changed ≡ true → old ≡ own_old → new
+    ≡ own_new
     → OnTrue changed (ThrottleOthers old new) → ThrottleOthers own_old own_new
 others_like changed old own_old new own_new e a b is =
     let other : ThrottleOthers old new = subst (λ (c : Bool). OnTrue c (ThrottleOthers old new)) e is in

@@ -61,7 +61,12 @@ no_look_back : (setting : Setting) (f : ℕ) (b : Bool) (back n : ℕ) (rest : L
     → look_back setting f b back n ++ rest ≡ [] → n < back
 no_look_back setting f b back n rest e = elim (cases_Bool (nat_le back n)) [
   | inl met ↦
-      let off : ◌≡◌ {A = List MarkLook} (record { function = f; is_high = b; cell = (n - back) % setting.layout.ring } ∷ rest) [] =
+      let off : ◌≡◌ {A = List MarkLook} (record {
+        function = f;
+        is_high = b;
+        cell =
+            (n - back) % setting.layout.ring;
+      } ∷ rest) [] =
       sym (ap (λ (xs : List MarkLook). xs ++ rest) (if_met (nat_le back n)
       (record { function = f; is_high = b; cell = (n - back) % setting.layout.ring } ∷ []) [] met)) ∙ e in cc
   | inr unmet ↦ leb-false back n unmet
@@ -191,7 +196,8 @@ module _ (setting : Setting) (feeder : ℕ) (aged : Ages) (ages : List PushMomen
             (marks.states f)
         | inr past ↦
             ap is_throttle (read.others f past ∙ outside f past)
-            ∙ sym (ap (λ (b : Bool). b && ((finds true f pass && aged (pass_count events_before) f) || is_throttled aged f events_before))
+            ∙ sym (ap (λ (b : Bool). b && ((finds true f pass && aged
+            (pass_count events_before) f) || is_throttled aged f events_before))
             (ap (finds false f) e ∙ read.later false f past))
       ]
 
@@ -262,7 +268,8 @@ module _ (setting : Setting) (feeder : ℕ) (aged : Ages) (ages : List PushMomen
 
   -- Where it changed, one is
 
-  module _ (few : setting.layout.functions ≤ MAX_FUNCTIONS) (more : posts < LAST_POST) (changed : ThrottleOthers old new) where
+  module _ (few : setting.layout.functions ≤ MAX_FUNCTIONS) (more : posts < LAST_POST)
+      (changed : ThrottleOthers old new) where
     abbrev bits : ℕ
     bits = posted_bits (posts + 1) (set_of new)
 
@@ -336,15 +343,17 @@ module _ (setting : Setting) (feeder : ℕ) (aged : Ages) (ages : List PushMomen
     posted_pass = (
       record {
         marks = (APost value, read.are_marks);
-        settled = subst (λ (l : Log). IsSettledFeeder setting feeder aged (Post (PostWord feeder) value ∷ l)) read.grew (record {
-          marked = (
-            subst (λ (p : MarkPhase). MayMark setting feeder aged log p (Post (PostWord feeder) value)) (sym stands) owed,
-            looked_marked,
-          );
-          ended = subst IsResting (sym after_stands) tt;
-          paid = subst (IsPaid aged) (sym after_events) paid_now;
-          paced = post_paced setting feeder value log looked_paced;
-        });
+        settled = subst (λ (l : Log). IsSettledFeeder setting feeder aged (Post
+            (PostWord feeder) value ∷ l)) read.grew (record {
+              marked = (
+                subst (λ (p : MarkPhase). MayMark setting feeder aged log p (Post (PostWord feeder) value))
+                    (sym stands) owed,
+                looked_marked,
+              );
+              ended = subst IsResting (sym after_stands) tt;
+              paid = subst (IsPaid aged) (sym after_events) paid_now;
+              paced = post_paced setting feeder value log looked_paced;
+            });
         one = λ some.
             ap (λ (l : Log). pass_count (mark_events setting feeder (Post (PostWord feeder) value ∷ l))) (sym read.grew)
             ∙ ap pass_count after_events ∙ one_pass some;

@@ -92,7 +92,8 @@ feeder_after_push board feeder f now spot item before after was under long made 
     = λ g. ap (λ (r : ℕ). push_count (lane g r) after.log) role ∙ ap (push_count (lane g before.role)) log in
     let own : same_ring (lane f feeder.number) (lane f before.role) ≡ true =
     ap (λ (r : ℕ). same_ring (lane f feeder.number) (lane f r)) was.role ∙ same_ring_one (lane f feeder.number) in
-    let others : (g : ℕ) → f ≢ g → push_count (lane g after.role) after.log ≡ push_count (lane g before.role) before.log =
+    let others : (g : ℕ) → f ≢ g → push_count (lane g after.role) after.log
+    ≡ push_count (lane g before.role) before.log =
     λ g ne. counts g
     ∙ if_unmet (same_ring (lane f feeder.number) (lane g before.role)) (push_count (lane g before.role) before.log + 1)
     (push_count (lane g before.role) before.log) (lanes_apart f g feeder.number before.role ne) in
@@ -113,7 +114,8 @@ feeder_after_push board feeder f now spot item before after was under long made 
           let within : g < length feeder.spots = subst (λ (n : ℕ). g < n) (length-set feeder.spots f end) inside in
           elim (cases_order f g) [
             | inl e ↦
-                subst (λ (h : ℕ). IsOwnEnd board (lane h after.role) (slice_index_or (slice_set feeder.spots f end) h d) after) e
+                subst (λ (h : ℕ). IsOwnEnd board (lane h after.role) (slice_index_or
+                (slice_set feeder.spots f end) h d) after) e
                 (subst (λ (o : Option Spot). IsOwnEnd board (lane f after.role) o after)
                 (sym (get_or-set_same feeder.spots f end d under))
                 (ring ∙ ap (lane f) (sym (role ∙ was.role)), tail))
@@ -121,19 +123,24 @@ feeder_after_push board feeder f now spot item before after was under long made 
             | inr (inr upper) ↦ other_end g d within (λ e. omega (arith, e, upper))
           ];
       enough = λ g d inside.
-          let within : g < length feeder.ages = subst (λ (n : ℕ). g < n) (length-set feeder.ages f (pushed_at now kept)) inside in
-          let other : f ≢ g → KeepsEnough after g feeder.high (slice_index_or (slice_set feeder.ages f (pushed_at now kept)) g d) =
+          let within : g < length feeder.ages = subst (λ (n : ℕ). g < n) (length-set feeder.ages f
+          (pushed_at now kept)) inside in
+          let other : f ≢ g → KeepsEnough after g feeder.high (slice_index_or (slice_set feeder.ages f
+          (pushed_at now kept)) g d) =
           λ ne. subst (KeepsEnough after g feeder.high)
           (sym (get_or-set_other feeder.ages f g (pushed_at now kept) d (λ e. ne (sym e))))
-          (enough_same before after g feeder.high (slice_index_or feeder.ages g d) (others g ne) (was.enough g d within)) in
+          (enough_same before after g feeder.high (slice_index_or feeder.ages g d) (others g ne)
+          (was.enough g d within)) in
           elim (cases_order f g) [
             | inl e ↦
-                subst (λ (h : ℕ). KeepsEnough after h feeder.high (slice_index_or (slice_set feeder.ages f (pushed_at now kept)) h d)) e
+                subst (λ (h : ℕ). KeepsEnough after h feeder.high (slice_index_or (slice_set feeder.ages f
+                (pushed_at now kept)) h d)) e
                 (subst (KeepsEnough after f feeder.high)
                 (sym (get_or-set_same feeder.ages f (pushed_at now kept) d (omega (arith, under, long))))
                 (enough_more before after f feeder.high now kept
                 (counts f
-                ∙ if_met (same_ring (lane f feeder.number) (lane f before.role)) (push_count (lane f before.role) before.log + 1)
+                ∙ if_met (same_ring (lane f feeder.number) (lane f before.role)) (push_count
+                (lane f before.role) before.log + 1)
                 (push_count (lane f before.role) before.log) own)
                 (was.enough f (no_moments 0) (omega (arith, under, long)))))
             | inr (inl lower) ↦ other (λ e. omega (arith, e, lower))
@@ -148,7 +155,8 @@ pub moments_after_push : (moment : ℕ → ℕ) (feeder : FeederView) (f now : �
     → KeepsMoments moment (pushed_on_lane f spot now feeder) (Push (lane f feeder.number) item ∷ before)
 moments_after_push moment feeder f now spot item before under some at was g d inside =
     let within : g < length feeder.ages =
-    subst (λ (n : ℕ). g < n) (length-set feeder.ages f (pushed_at now (slice_index_or feeder.ages f (no_moments 0)))) inside in
+    subst (λ (n : ℕ). g < n) (length-set feeder.ages f (pushed_at now (slice_index_or feeder.ages f
+    (no_moments 0)))) inside in
     let kept : PushMoments = slice_index_or feeder.ages f (no_moments 0) in
     let keep : List ℕ → PushMoments = λ xs. record { high = feeder.high; moments = last_of feeder.high xs } in
     let ring : RingId = lane f feeder.number in
@@ -170,11 +178,13 @@ moments_after_push moment feeder f now spot item before under some at was g d in
         → slice_index_or (slice_set feeder.ages f (pushed_at now (slice_index_or feeder.ages f (no_moments 0)))) g d
         ≡ record {
           high = feeder.high;
-          moments = last_of feeder.high (push_moments (lane g feeder.number) moment (Push (lane f feeder.number) item ∷ before));
+          moments = last_of feeder.high (push_moments (lane g feeder.number) moment (Push
+              (lane f feeder.number) item ∷ before));
         }
     other g d within ne =
         let ms : List ℕ = push_moments (lane g feeder.number) moment before in
-        get_or-set_other feeder.ages f g (pushed_at now (slice_index_or feeder.ages f (no_moments 0))) d (λ e. ne (sym e))
+        get_or-set_other feeder.ages f g (pushed_at now (slice_index_or feeder.ages f (no_moments 0))) d (λ e. ne
+        (sym e))
         ∙ was g d within
         ∙ ap (λ (xs : List ℕ). record { high = feeder.high; moments = last_of feeder.high xs })
         (sym (if_unmet (same_ring (lane f feeder.number) (lane g feeder.number)) (ms ++ moment (length before) ∷ []) ms

@@ -75,7 +75,8 @@ half_fits marks back less few =
 
 pub one_more : (marks : List Mark) (back : ℕ) (d : Mark) → back < length marks
     → set_of (drop (length marks - (back + 1)) marks)
-    ≡ (if is_throttle (get_or marks (length marks - 1 - back) d) then 1 else 0) + 2 * set_of (drop (length marks - back) marks)
+    ≡ (if is_throttle (get_or marks (length marks - 1 - back) d) then 1 else 0) + 2 * set_of (drop
+    (length marks - back) marks)
 one_more marks back d less =
     let n : ℕ = length marks in
     let j : ℕ = n - 1 - back in
@@ -89,4 +90,5 @@ pub none_summed : (marks : List Mark) → 0 ≡ set_of (drop (length marks - 0) 
 none_summed marks = sym (ap set_of (drop_all (length marks - 0) marks (omega arith)))
 
 pub all_summed : (marks : List Mark) → set_of (drop (length marks - length marks) marks) ≡ set_of marks
-all_summed marks = ap (λ (k : ℕ). set_of (drop k marks)) (let n : ℕ = length marks in let e : n - n ≡ 0 = omega arith in e)
+all_summed marks = ap (λ (k : ℕ). set_of (drop k marks)) (let n : ℕ = length marks in let e : n - n
+    ≡ 0 = omega arith in e)

@@ -7,7 +7,8 @@ use Rattle.onvm_base.specs.Moves.{IsOfChain}
 use Rattle.onvm_core.specs.declared.entry.Entry.{Entry}
 use Rattle.onvm_core.specs.declared.layout.Word.TheVariants.{Post}
 use Rattle.onvm_core.specs.declared.step.Act.TheVariants.{Look}
-use Rattle.onvm_core.specs.Logs.{Log, Setting, feeder_count}
+use Rattle.onvm_core.specs.Layouts.{feeder_count}
+use Rattle.onvm_core.specs.Logs.{Log, Setting}
 use Rattle.onvm_core.specs.Receiving.{ReceivePhase}
 use Rattle.onvm_core.specs.Receiving.ReceivePhase.{Between, Asks, Seeks}
 use Rattle.onvm_board.specs.Asking.{IsLowestHeld, masked_bits}
@@ -38,8 +39,8 @@ abbrev pub held_record : FrameId → (feeder post function : ℕ) → Record
 held_record frame feeder post function =
     record { frame = frame; outcome = Throttled feeder post (record { 0 = function }) }
 
--- the posts before this feeder's had no bit of the mask, and its look recorded the frame as throttled, by the post's number
--- and the lowest function of the mask that it has
+-- the posts before this feeder's had no bit of the mask, and its look recorded the frame as throttled, by the post's
+-- number and the lowest function of the mask that it has
 pub record IsHeldBack (frame : FrameId) (mask feeder post function : ℕ) (before after : TokenView) : Type 0 where
   pub values : List ℕ
   pub seen : ℕ
@@ -66,7 +67,7 @@ pub record IsMaskOf (setting : Setting) (e : Entry) (mask : ℕ) : Type 0 where
 -- where a block stands after so many looks at posts
 abbrev pub ask_phase : Setting → (done asked : ℕ) → ReceivePhase
 ask_phase setting done zero = Between done
-ask_phase setting done (suc k) = if suc k == feeder_count setting then Seeks done 0 else Asks done (suc k)
+ask_phase setting done (suc k) = if suc k == feeder_count setting.layout then Seeks done 0 else Asks done (suc k)
 
 -- the looks of an admission in a log
 abbrev pub log_after_asks : List ℕ → Log → Log

@@ -19,8 +19,9 @@ use Rattle.watermark.specs.Moments.{PushMoments, no_moments, pushed_at}
 use Rattle.entry_throttle.specs.Lanes.{AreOwnEnds, AreTimely, HasMarks, KeepsEnough}
 use Rattle.entry_throttle.specs.Throttles.{AreMarksOf}
 
--- a feeder: its number, the marks, the age and the lanes' size of its plan; its own ends of the lanes, the moments of their
--- last pushes and their marks, in order of functions; its posts, the oldest first, and for how many more there is room
+-- a feeder: its number, the marks, the age and the lanes' size of its plan; its own ends of the lanes, the moments of
+-- their last pushes and their marks, in order of functions; its posts, the oldest first, and for how many more there is
+-- room
 pub record FeederView : Type 0 where
   pub number : ℕ
   pub high : ℕ

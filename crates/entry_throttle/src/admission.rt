@@ -1,6 +1,6 @@
 //! Whether a frame may enter.
 ghost use Rattle.std.specs.Prelude.{◌≡◌};
-ghost use Rattle.onvm_board.specs.Addresses.{feeder_count};
+ghost use Rattle.onvm_core.specs.Layouts.{feeder_count};
 ghost use Rattle.desc_ring.specs.Ends.{LeavesEnds};
 ghost use Rattle.entry_throttle.specs.Admissions.{IsAnswer};
 

@@ -5,8 +5,8 @@ use Rattle.onvm_core.specs.Marks.MarkEvent.{Passed, Posted}
 use Rattle.watermark.specs.declared.mark.Mark.{Mark}
 use Rattle.watermark.specs.declared.mark.Mark.TheVariants.{Calm, Watch, Throttle}
 
--- what the looks at a lane find: that it holds the high mark, that it holds the low one, and whether the queuing time is
--- at least the age
+-- what the looks at a lane find: whether it holds the high mark, whether it holds the low one, and whether its queuing
+-- time is at least the age
 pub record Reading : Type 0 where
   pub high : Bool
   pub low : Bool

@@ -21,7 +21,8 @@ returns-then-held-ne0-clause-answer c =
           (trailing_zeros w32 (bit_and c.bits_of.result mask)) c.args.token.now c.judge-seen.new.token)
           (sym c.number_of.ensures)
           (subst (λ (bits : ℕ). IsHeldBack c.args.frame mask c.loop-feeder.feeder (seen / 2 ^ 32)
-          (trailing_zeros w32 (bit_and bits mask)) c.args.token.now c.judge-seen.new.token) (sym c.bits_of.ensures) held),
+          (trailing_zeros w32 (bit_and bits mask)) c.args.token.now c.judge-seen.new.token)
+          (sym c.bits_of.ensures) held),
     )
 
 pub loop-feeder-preserved : goal.loop-feeder-preserved

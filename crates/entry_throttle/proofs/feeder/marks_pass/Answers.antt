@@ -28,7 +28,8 @@ returns-then-not-is_owed-clause-passed c setting aged ready =
     c.requires.feeder.role (c.deref-2.ensures.value ∙ ap (λ (f : FeederView). f.ages) view)
     (ap (λ (l : Layout). l.functions) (sym ready.plan.same)) old_marks (sym marks_are) raw in
     let made = c.len-made.ensures ∙ c.feeder.inside.posts.ok.0 ∙ ap (λ (f : FeederView). length f.posts) view in
-    made_quiet setting aged c.args.board.now c.args.now feeder _ c.args.token.now c.read_lanes-changed.new.token ready read
+    made_quiet setting aged c.args.board.now c.args.now feeder _ c.args.token.now c.read_lanes-changed.new.token
+    ready read
     (ap (λ (f : FeederView). f.posts) view)
     (elim c.if-not-is_owed.ensures.quiet [
       | inl same ↦
@@ -55,7 +56,12 @@ returns-clause-passed c setting aged ready =
     let made = c.len-made.ensures ∙ c.feeder.inside.posts.ok.0 ∙ ap (λ (f : FeederView). length f.posts) view in
     made_post setting aged c.args.board.now c.args.now feeder _ c.args.token.now c.read_lanes-changed.new.token
     c.post.new.token (c.len-made.result + 1) c.bits_of_post-bits.result c.value_of.result ready read
-    (omega (arith, ap (λ (f : FeederView). length f.marks) (sym view), c.feeder.invariant.few, c.feeder.invariant.marks_long))
+    (omega (
+      arith,
+      ap (λ (f : FeederView). length f.marks) (sym view),
+      c.feeder.invariant.few,
+      c.feeder.invariant.marks_long,
+    ))
     (ap (λ (n : ℕ). n + 1) made)
     (c.bits_of_post-bits.ensures
     ∙ ap (posted_bits (c.len-made.result + 1)) (c.set_of.ensures ∙ ap set_of c.deref-3.ensures.value))

@@ -67,11 +67,15 @@ loop-f-preserved c =
           (omega (arith, c.loop-f-test.true, c.requires.long.0, c.requires.long.2, was.long)) c.loop-f.changed
           c.differs_or-changed.result was.changed c.differs_or-changed.ensures.other c.differs_or-changed.ensures.same;
       ends = λ g d under.
-          subst (λ (role : ℕ). IsOwnEnd c.args.board.now (lane g role) (slice_index_or c.args.ends.now g d) three) (sym looked.role)
-          (end_looked c.args.board.now (lane g one.role) (slice_index_or c.args.ends.now g d) two three looked_low c.holds-low.ensures.ends
-          (end_looked c.args.board.now (lane g one.role) (slice_index_or c.args.ends.now g d) one two looked_high c.holds-high.ensures.ends
+          subst (λ (role : ℕ). IsOwnEnd c.args.board.now (lane g role) (slice_index_or c.args.ends.now g d) three)
+          (sym looked.role)
+          (end_looked c.args.board.now (lane g one.role) (slice_index_or c.args.ends.now g d) two three looked_low
+          c.holds-low.ensures.ends
+          (end_looked c.args.board.now (lane g one.role) (slice_index_or c.args.ends.now g d) one two looked_high
+          c.holds-high.ensures.ends
           (was.ends g d under)));
-      enough = λ g d under. enough_kept one three g c.args.limits.high (slice_index_or c.args.ages.now g d) looked (was.enough g d under);
+      enough = λ g d under. enough_kept one three g c.args.limits.high (slice_index_or c.args.ages.now g d) looked
+          (was.enough g d under);
       leaves =
           leaves_twice c.args.board.now c.args.token.now one three was.leaves
           (leaves_twice c.args.board.now one two three c.holds-high.ensures.ends c.holds-low.ensures.ends);

@@ -51,7 +51,8 @@ split-core-requires-clause-whole c =
 
 pub at-tail-requires : goal.at-tail-requires
 at-tail-requires c =
-    let functions = c.requires.layout.functions ∙ ap (λ (fs : List FunctionPlan). length fs) c.requires.plan.functions in
+    let functions = c.requires.layout.functions ∙ ap (λ (fs : List FunctionPlan). length fs)
+    c.requires.plan.functions in
     record { known = (omega (arith, functions), omega (arith, c.requires.layout.ports, c.requires.plan.ports)) }
 
 pub story-requires-clause-layout : goal.story-requires-clause-layout

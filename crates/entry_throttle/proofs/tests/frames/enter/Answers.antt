@@ -27,14 +27,18 @@ returns-in-Ok c =
     record {
       feeds = λ e. record {
         feeder =
-            c.pushed.ensures.feeder c.args.board.now (Buffer (record { 0 = c.from.result }) (parcel_in lent)) lent c.push.new.token was
-            (subst (λ (ring : RingId). MakesStep c.args.board.now (Push ring (Buffer (record { 0 = c.from.result }) (parcel_in lent))) lent c.push.new.token)
+            c.pushed.ensures.feeder c.args.board.now (Buffer (record { 0 = c.from.result })
+            (parcel_in lent)) lent c.push.new.token was
+            (subst (λ (ring : RingId). MakesStep c.args.board.now (Push ring (Buffer
+            (record { 0 = c.from.result }) (parcel_in lent))) lent c.push.new.token)
             own made)
-            (subst (λ (spot : Spot). IsTail c.args.board.now spot c.push.new.token) (sym c.spot.ensures) c.push.ensures.tail.end)
+            (subst (λ (spot : Spot). IsTail c.args.board.now spot c.push.new.token)
+            (sym c.spot.ensures) c.push.ensures.tail.end)
             (ap (λ (spot : Spot). spot.ring) c.spot.ensures ∙ c.push.ensures.ring ∙ own);
         tail = c.push.ensures.tail;
         ring = c.push.ensures.ring ∙ feeds.ring;
-        role = ap (λ (t : TokenView). t.role) made.grew ∙ ap (λ (t : TokenView). t.role) c.lend.ensures.new ∙ c.take.ensures.same.1 ∙ feeds.role;
+        role = ap (λ (t : TokenView). t.role) made.grew ∙ ap (λ (t : TokenView). t.role) c.lend.ensures.new
+            ∙ c.take.ensures.same.1 ∙ feeds.role;
         empty_handed = ap (λ (t : TokenView). t.hand) made.grew;
       };
     }
