@@ -8,7 +8,7 @@ use Rattle.onvm_core.specs.declared.layout.Layout.{Layout}
 use Rattle.onvm_core.specs.declared.step.Item.{Item}
 use Rattle.onvm_core.specs.Layouts.{IsRing, IsLayout, IsFeeder, ring_size}
 use Rattle.onvm_core.specs.Potential.{pushed_in, popped_in}
-use Rattle.onvm_board.specs.Addresses.{feeder_count}
+use Rattle.onvm_core.specs.Layouts.{feeder_count}
 use Rattle.onvm_board.specs.Spots.{start_spot}
 use Rattle.onvm_board.specs.Tokens.{BoardView, TokenView, StandsAt, IsBufferRing, IsMailRing}
 use Rattle.desc_ring.specs.declared.tail.Tail.{Tail}

@@ -4,7 +4,7 @@ use Rattle.onvm_base.specs.declared.ids.RingId.{RingId}
 use Rattle.onvm_base.specs.declared.ids.RingId.TheVariants.{Lane, Output, Mail as MailRing}
 use Rattle.onvm_core.specs.declared.layout.Layout.{Layout}
 use Rattle.onvm_core.specs.Layouts.{producer, consumer, ring_size}
-use Rattle.onvm_board.specs.Addresses.{feeder_count}
+use Rattle.onvm_core.specs.Layouts.{feeder_count}
 use Rattle.onvm_board.specs.Spots.{start_spot}
 use Rattle.onvm_board.specs.Tokens.{BoardView, TokenView}
 use Rattle.desc_ring.specs.declared.tail.Tail.{Tail}

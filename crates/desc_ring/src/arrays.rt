@@ -1,7 +1,7 @@
 //! Ends in arrays.
 ghost use Rattle.std.specs.Prelude.{◌≡◌, ◌<◌, IfOk};
 ghost use Rattle.onvm_core.specs.Layouts.{IsFeeder, IsLayout};
-ghost use Rattle.onvm_board.specs.Addresses.{feeder_count};
+ghost use Rattle.onvm_core.specs.Layouts.{feeder_count};
 ghost use Rattle.desc_ring.specs.Arrays.{AreNew, lane_from, lane_to, mail_of, new_head, new_mail, new_tail, output_of};
 
 use crate::head::Head;
