@@ -4,6 +4,7 @@ ghost use Rattle.onvm_core.specs.declared.step.Act.TheVariants.{Look, Take};
 ghost use Rattle.onvm_core.specs.Layouts.{IsLayout};
 ghost use Rattle.onvm_core.specs.Receiving.{IsLowest};
 ghost use Rattle.onvm_board.specs.Tokens.{MakesStep};
+ghost use Rattle.desc_ring.specs.Ends.{LeavesEnds};
 ghost use Rattle.mbuf_pool.specs.Parts.{FindsNone, IsPartOf, TakesLowest, part_word};
 
 use onvm_base::{BufId, FrameId, PortId, WORD_BITS};
@@ -45,6 +46,7 @@ impl Part {
         requires empty_handed { token.old.hand ≡ [] }
         ensures taken { IfSome result (λ buf. TakesLowest board.now self.now.port.0 buf token.old token.new) }
         ensures none { IfNone result (FindsNone board.now self.now.port.0 frame token.old token.new) }
+        ensures ends { LeavesEnds board.now token.old token.new }
     {
         let port = self.port;
         let last = self.words - 1;
@@ -75,7 +77,7 @@ impl Part {
         ensures taken { MakesStep board.now (Take result) token.old token.new }
     {
         let bit = seen.trailing_zeros() as u16;
-        let buf = BufId(u16::from(self.port.0) * self.buffers + WORD_BITS * u16::from(index) + bit);
+        let buf = BufId(self.port.0 as u16 * self.buffers + WORD_BITS * index as u16 + bit);
         board.take(token, buf);
         buf
     }
