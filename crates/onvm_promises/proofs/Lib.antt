@@ -1,8 +1,13 @@
 pub mod Aging
+pub mod BlockPacing
+pub mod Evening
+pub mod Fitting
 pub mod Following
 pub mod Keeping
 pub mod Moving
 pub mod Pacing
 pub mod Settling
 pub mod Stretches
+pub mod Ticking
+pub mod Timing
 pub mod Unmarked

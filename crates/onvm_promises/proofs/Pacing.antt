@@ -212,7 +212,7 @@ blocks_reset setting port (act ∷ made) before are =
             ≡ blocks_since_pass setting port log
         no_block value = rw (post_begins (receive_phase setting log) value) refl
 
-pops_within : (setting : Setting) (feeder f : ℕ) (log : Log) → IsPaced setting feeder log
+pub pops_within : (setting : Setting) (feeder f : ℕ) (log : Log) → IsPaced setting feeder log
     → pops_since_pass setting feeder f log ≤ setting.plan.burst
 pops_within setting feeder f [] paced = omega arith
 pops_within setting feeder f (act ∷ log) paced = paced.0.1 f
