@@ -1,5 +1,6 @@
 -- The tick role between its passes.
-use Rattle.std.specs.Prelude.{ℕ, ◌≡◌, ◌≢◌, ◌+◌, ◌-◌, ◌<◌, ◌≤◌, max, Bool, false, List, [], ◌∷◌, length, All, Some, slice_get, slice_index_or, vec_capacity, vec_len}
+use Rattle.std.specs.Prelude.{ℕ, ◌≡◌, ◌≢◌, ◌+◌, ◌-◌, ◌<◌, ◌≤◌, Bool, false, List, [], ◌∷◌, length, All, Some, slice_get, slice_index_or, Vec, vec_capacity, vec_len}
+use Rattle.std.proofs.Common.{Global}
 use Rattle.onvm_base.specs.declared.function.FunctionPlan.{FunctionPlan}
 use Rattle.onvm_base.specs.declared.limits.TheConstants.{MAX_FUNCTIONS}
 use Rattle.onvm_base.specs.declared.plan.Plan.{Plan}
@@ -37,10 +38,9 @@ abbrev pub last_sample_moment : ℕ → List Sample → ℕ
 last_sample_moment first [] = first
 last_sample_moment first (sample ∷ samples) = last_sample_moment sample.moment samples
 
--- the latest moment that the role knows: its start, or that of a sample or a tick
-abbrev pub latest_moment : TickRole → ℕ
-latest_moment role =
-    max (last_moment (first_of role) (ticked role)) (last_sample_moment (first_of role) (logged role))
+-- the moment of the last pass that wasn't cut short, at first that of the start
+abbrev pub latest_of : TickRole → ℕ
+latest_of role = role.latest.value
 
 -- Mail rings
 
@@ -52,18 +52,24 @@ pub record AreMailsOf (site : BoardView) (mails : List Mail) (token : TokenView)
 -- Windows
 
 -- a window of mailed samples, with moments up to this one
-pub record HasWindow (span latest : ℕ) (samples : List Sample) (window : WindowState) : Type 0 where
+pub record HasWindow (latest : ℕ) (samples : List Sample) (window : WindowState) : Type 0 where
   pub aged : ℕ
   pub last : ℕ
-  pub is : IsWindowOf span aged last samples window
+  pub is : IsWindowOf window.span aged last samples window
   pub before : last ≤ latest
+  pub some : 0 < window.span
   pub mailed : All IsMailed samples
+
+-- of the plan's length, and of a function's samples
+pub record IsWindowAt (plan : Plan) (latest : ℕ) (samples : List Sample) (f : ℕ) (window : WindowState) : Type 0 where
+  pub span_is : window.span ≡ plan.window
+  pub has : HasWindow latest (samples_of f samples) window
 
 -- for each function a window of its samples
 pub record AreWindows (plan : Plan) (latest : ℕ) (samples : List Sample) (windows : List WindowState) : Type 0 where
   pub long : length windows ≡ length plan.functions
   pub each : (f : ℕ) (window : WindowState) → f < length plan.functions → window ≡ slice_index_or windows f window
-      → HasWindow plan.window latest (samples_of f samples) window
+      → IsWindowAt plan latest samples f window
 
 -- Weights
 
@@ -85,7 +91,7 @@ pub record HasCoreRoom (core : CoreLoads) : Type 0 where
   pub priorities : MAX_FUNCTIONS ≤ vec_capacity core.priorities
 
 -- so many more samples need no memory
-abbrev pub HasRoom : ℕ → Vec Sample → Type 0
+abbrev pub HasRoom : ℕ → Vec Sample Global → Type 0
 HasRoom n samples = vec_len samples + n ≤ vec_capacity samples
 
 -- a room in which nothing was taken and no tick was made, of this plan
@@ -106,10 +112,12 @@ pub record IsTickRole (site : BoardView) (plan : Plan) (closed : Bool) (token : 
   pub mine : token.role ≡ tick_role site.layout
   pub mails : AreMailsOf site role.room.mails.items token
   pub mail_room : length plan.functions ≤ vec_capacity role.room.mails
-  pub windows : AreWindows plan (latest_moment role) (logged role) role.room.windows.items
+  pub windows : AreWindows plan (latest_of role) (logged role) role.room.windows.items
   pub core : HasCoreRoom role.room.core
   pub in_force : LastInForce plan (ticked role)
   pub rise : NeverFall (first_of role) (logged role)
+  pub last_sample : last_sample_moment (first_of role) (logged role) ≤ latest_of role
+  pub last_tick : last_moment (first_of role) (ticked role) ≤ latest_of role
   pub few : closed ≡ false → length (ticked role) < last_number
 
 -- in a pass: the ends of the mail rings are set up, and the windows have no sample from behind this moment
@@ -121,14 +129,17 @@ pub record IsAtWork (site : BoardView) (plan : Plan) (now : ℕ) (token : TokenV
   pub windows : AreWindows plan now (logged role) role.room.windows.items
 
 -- all but the samples and the ticks
-pub record KeepsRest (old new : TickRoom) : Type 0 where
-  pub mails : new.mails ≡ old.mails
-  pub windows : new.windows ≡ old.windows
-  pub core : new.core ≡ old.core
+pub record KeepsRest (old new : TickRole) : Type 0 where
+  pub first : new.first ≡ old.first
+  pub latest : new.latest ≡ old.latest
+  pub mails : new.room.mails ≡ old.room.mails
+  pub windows : new.room.windows ≡ old.room.windows
+  pub core : new.room.core ≡ old.room.core
 
 -- the taking of samples leaves these
 pub record KeepsTicks (old new : TickRole) : Type 0 where
   pub first : new.first ≡ old.first
+  pub latest : new.latest ≡ old.latest
   pub mail_room : vec_capacity old.room.mails ≤ vec_capacity new.room.mails
   pub core : new.room.core ≡ old.room.core
   pub ticks : new.room.ticks ≡ old.room.ticks

@@ -1,5 +1,5 @@
 -- What a tick reads of windows, and posts of its lines.
-use Rattle.std.specs.Prelude.{ℕ, ◌≡◌, ◌+◌, ◌<◌, List, [], ◌∷◌, ◌++◌, length, Option, Some, None, map, slice_get, slice_index_or}
+use Rattle.std.specs.Prelude.{ℕ, ◌≡◌, ◌+◌, ◌<◌, Bool, if◌then◌else◌, List, [], ◌∷◌, ◌++◌, length, Option, Some, None, map, slice_get, slice_index_or}
 use Rattle.onvm_base.specs.declared.function.FunctionPlan.{FunctionPlan}
 use Rattle.onvm_base.specs.declared.ids.FnId.{FnId}
 use Rattle.onvm_base.specs.declared.plan.Plan.{Plan}
@@ -8,6 +8,7 @@ use Rattle.onvm_core.specs.declared.step.Act.TheVariants.{Post}
 use Rattle.onvm_core.specs.Logs.{Log}
 use Rattle.load_estimate.specs.declared.sample.Sample.{Sample}
 use Rattle.load_estimate.specs.declared.tick.Share.{Share}
+use Rattle.load_estimate.specs.declared.tick.Tick.{Tick}
 use Rattle.load_estimate.specs.declared.tick.TickLine.{TickLine}
 use Rattle.load_estimate.specs.Windows.{WindowState, empty_window}
 use Rattle.cpu_shares.specs.declared.load.Load.{Load}
@@ -47,3 +48,11 @@ post_of f (Some share) = Post (Weight f) share.weight ∷ []
 abbrev pub posts_from : ℕ → List TickLine → Log
 posts_from f [] = []
 posts_from f (line ∷ lines) = posts_from (f + 1) lines ++ post_of (record { 0 = f }) line.share
+
+-- of a pass that makes a tick, or none
+
+abbrev pub posts_where : (due : Bool) → List TickLine → Log
+posts_where due lines = if due then posts_from 0 lines else []
+
+abbrev pub ticks_where : (due : Bool) → Tick → List Tick
+ticks_where due tick = if due then tick ∷ [] else []

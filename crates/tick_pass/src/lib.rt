@@ -12,8 +12,8 @@ mod mailbox;
 mod role;
 mod room;
 mod sample;
-// #[cfg(test)]
-// mod tests;
+#[cfg(test)]
+mod tests;
 mod tick;
 mod windows;
 

@@ -1,12 +1,14 @@
 //! The loads of the functions of one core.
-ghost use Rattle.std.specs.Prelude.{◌≡◌, ◌<◌, ℕ, List, Some, length, map, slice_get, IfOk, IfSome};
+ghost use Rattle.std.specs.Prelude.{◌≡◌, ◌<◌, ◌++◌, ◌∷◌, [], ℕ, List, Some, length, map, slice_get, IfOk, IfSome};
 ghost use Rattle.onvm_base.specs.declared.function.FunctionPlan.{FunctionPlan};
+ghost use Rattle.onvm_base.specs.declared.limits.TheConstants.{MAX_FUNCTIONS};
 ghost use Rattle.load_estimate.specs.declared.sample.Sample.{Sample};
 ghost use Rattle.cpu_shares.specs.Shares.{IsWeight, load_in};
 ghost use Rattle.nf_registry.specs.Places.{residents};
 ghost use Rattle.onvm_promises.specs.Lines.{function_share};
 ghost use Rattle.tick_pass.specs.Telling.{AreCurrent, AreLoaded, load_at, priority_at};
 
+use crate::room::append;
 use cpu_shares::{Load, share};
 use load_estimate::{Share, Window};
 use onvm_base::{FunctionPlan, MAX_FUNCTIONS, NoMemory, Plan};
@@ -19,8 +21,8 @@ pub struct CoreLoads {
     pub priorities: Vec<u16>,
 }
 
-// What a window says.
-fn load_of(window: &Window) -> Load
+/// What a window says.
+pub(crate) fn load_of(window: &Window) -> Load
     ensures { result ≡ load_in window.now.samples }
 {
     Load {
@@ -57,6 +59,19 @@ impl CoreLoads {
         Ok(CoreLoads { loads, priorities })
     }
 
+    // Takes the load and the priority of one function more.
+    fn add(&mut self, load: Load, priority: u16)
+        requires room { HasCoreRoom self.old }
+        requires loads { length self.old.loads.items < MAX_FUNCTIONS }
+        requires priorities { length self.old.priorities.items < MAX_FUNCTIONS }
+        ensures loads { self.new.loads.items ≡ self.old.loads.items ++ load ∷ [] }
+        ensures priorities { self.new.priorities.items ≡ self.old.priorities.items ++ priority ∷ [] }
+        ensures room { HasCoreRoom self.new }
+    {
+        append(&mut self.loads, load);
+        append(&mut self.priorities, priority);
+    }
+
     // Reads the windows of the functions of a core.
     fn gather(&mut self, plan: &Plan, windows: &[Window], core: u8)
         requires room { HasCoreRoom self.old }
@@ -71,8 +86,7 @@ impl CoreLoads {
         let functions = plan.functions.as_slice();
         for f in 0..functions.len() {
             if functions[f].core == core {
-                let _ = self.loads.push(load_of(&windows[f]));
-                let _ = self.priorities.push(functions[f].priority);
+                self.add(load_of(&windows[f]), functions[f].priority);
             }
         }
     }

@@ -7,6 +7,7 @@ ghost use Rattle.onvm_promises.specs.Lines.{samples_of};
 ghost use Rattle.tick_pass.specs.Roles.{HasRoom, HasWindow};
 ghost use Rattle.tick_pass.specs.Taking.{HasTaken};
 
+use crate::room::append;
 use crate::sample::sample_of;
 use desc_ring::Mail;
 use load_estimate::{Sample, Window};
@@ -23,15 +24,14 @@ fn take_one(
     function: FnId,
     now: u64,
 ) -> bool
-    ghost span: { ℕ }
     requires mail { IsMailHead board.now mail.old token.old }
     requires ring { mail.old.spot.ring ≡ MailRing function }
-    requires span { 0 < span }
-    requires window { HasWindow span now (samples_of function.0 samples.old.items) window.old }
+    requires window { HasWindow now (samples_of function.0 samples.old.items) window.old }
     requires room { HasRoom 1 samples.old }
     ensures taken { HasTaken function now (one_if result) (not result) token.old token.new
         samples.old.items samples.new.items }
-    ensures window { HasWindow span now (samples_of function.0 samples.new.items) window.new }
+    ensures window { HasWindow now (samples_of function.0 samples.new.items) window.new }
+    ensures span { window.new.span ≡ window.old.span }
     ensures mail { IsMailHead board.now mail.new token.new }
     ensures ring { mail.new.spot.ring ≡ MailRing function }
     ensures room { (n : ℕ) → HasRoom (n + 1) samples.old → HasRoom n samples.new }
@@ -40,7 +40,7 @@ fn take_one(
         Some(number) => {
             let sample = sample_of(function, number, now);
             window.add(sample);
-            let _ = samples.push(sample);
+            append(samples, sample);
             true
         }
         None => false,
@@ -57,16 +57,15 @@ pub(crate) fn take_waiting(
     function: FnId,
     now: u64,
 ) -> u16
-    ghost span: { ℕ }
     requires mail { IsMailHead board.now mail.old token.old }
     requires ring { mail.old.spot.ring ≡ MailRing function }
-    requires span { 0 < span }
-    requires window { HasWindow span now (samples_of function.0 samples.old.items) window.old }
+    requires window { HasWindow now (samples_of function.0 samples.old.items) window.old }
     requires room { HasRoom MAIL_RING samples.old }
     ensures taken { HasTaken function now result (nat_lt result MAIL_RING) token.old token.new
         samples.old.items samples.new.items }
     ensures few { result ≤ MAIL_RING }
-    ensures window { HasWindow span now (samples_of function.0 samples.new.items) window.new }
+    ensures window { HasWindow now (samples_of function.0 samples.new.items) window.new }
+    ensures span { window.new.span ≡ window.old.span }
     ensures mail { IsMailHead board.now mail.new token.new }
     ensures ring { mail.new.spot.ring ≡ MailRing function }
     ensures room { (n : ℕ) → HasRoom (n + MAIL_RING) samples.old → HasRoom n samples.new }

@@ -1,6 +1,5 @@
 //! The memory of a tick role, and what the role leaves.
-ghost use Rattle.std.specs.Prelude.{◌≡◌, [], IfOk};
-ghost use Rattle.tick_pass.specs.Roles.{IsNewRoom};
+ghost use Rattle.std.specs.Prelude.{◌≡◌, ◌+◌, ◌<◌, ◌≤◌, ◌++◌, ◌∷◌, [], IfOk, vec_len, vec_capacity};
 
 use crate::loads::CoreLoads;
 use crate::windows::windows_of;
@@ -28,7 +27,19 @@ pub struct TickKept {
     pub ticks: Ticks,
 }
 
+/// Appends an item to a list that has room for it.
+pub(crate) fn append<T: Drop>(list: &mut Vec<T>, item: T)
+    requires { vec_len list.old < vec_capacity list.old }
+    ensures items { list.new.items ≡ list.old.items ++ item ∷ [] }
+    ensures len { vec_len list.new ≡ vec_len list.old + 1 }
+    ensures capacity { vec_capacity list.old ≤ vec_capacity list.new }
+{
+    let _ = list.push(item);
+}
+
 impl TickRoom {
+    ghost use Rattle.tick_pass.specs.Roles.{IsNewRoom};
+
     /// The room of a plan's tick role. All memory but that of samples and ticks is taken here.
     pub fn make(alloc: Global, plan: &Plan) -> Result<TickRoom, NoMemory>
         ensures { IfOk result (IsNewRoom plan.now) }

@@ -15,6 +15,8 @@ const TIMES: u64 = 1 << 40;
 /// The sample that a function's mailed number tells, with the moment at which it was taken.
 pub(crate) fn sample_of(function: FnId, number: u64, moment: u64) -> Sample
     ensures tells { result ∷ [] ≡ samples_by moment (Pop (Mail function) (Number number)) }
+    ensures function { result.function ≡ function }
+    ensures moment { result.moment ≡ moment }
     ensures mailed { IsMailed result }
 {
     Sample {

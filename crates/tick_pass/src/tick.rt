@@ -5,12 +5,13 @@ ghost use Rattle.onvm_core.specs.Layouts.{tick_role};
 ghost use Rattle.onvm_board.specs.Tokens.{grown};
 ghost use Rattle.load_estimate.specs.declared.sample.Sample.{Sample};
 ghost use Rattle.load_estimate.specs.declared.tick.Tick.{Tick};
-ghost use Rattle.onvm_promises.specs.Lines.{line_of, lines_of, weight_after};
+ghost use Rattle.onvm_promises.specs.Lines.{line_of, lines_of, weight_after, weight_or};
 ghost use Rattle.onvm_promises.specs.Ticks.{last_number};
 ghost use Rattle.tick_pass.specs.Roles.{HasCoreRoom, LastInForce};
 ghost use Rattle.tick_pass.specs.Telling.{AreCurrent, AreLoaded, post_of, posts_from};
 
-use crate::loads::CoreLoads;
+use crate::loads::{CoreLoads, load_of};
+use crate::room::append;
 use load_estimate::{Share, Tick, TickLine, Window};
 use onvm_base::{FnId, ListOf, Plan};
 use onvm_board::{Board, Token};
@@ -26,6 +27,19 @@ fn weight_in_force(plan: &Plan, ticks: &[Tick], f: usize) -> u32
     match ticks.last() {
         Some(tick) => tick.lines.as_slice()[f].weight,
         None => plan.functions.as_slice()[f].weight,
+    }
+}
+
+// The weight of a function in force from now on: its share's, and without a share the one so far.
+fn weight_told(plan: &Plan, ticks: &[Tick], f: usize, share: Option<Share>) -> u32
+    requires known { f < length plan.now.functions }
+    requires last { LastInForce plan.now ticks.now }
+    ensures { (function : FunctionPlan) → slice_get plan.now.functions f ≡ Some function
+        → result ≡ weight_or share (weight_after f function.weight ticks.now) }
+{
+    match share {
+        Some(share) => share.weight,
+        None => weight_in_force(plan, ticks, f),
     }
 }
 
@@ -59,13 +73,11 @@ fn line_at(
     ensures room { HasCoreRoom core.new }
 {
     let share = core.share(plan, windows, f);
-    let weight = match share {
-        Some(share) => share.weight,
-        None => weight_in_force(plan, ticks, f),
-    };
+    let weight = weight_told(plan, ticks, f, share);
+    let load = load_of(&windows[f]);
     TickLine {
-        arrivals: windows[f].arrivals(),
-        median: windows[f].median(),
+        arrivals: load.arrivals,
+        median: load.median,
         share,
         weight,
     }
@@ -97,7 +109,7 @@ pub(crate) fn tell_lines(
     for f in 0..plan.functions.len() {
         let line = line_at(core, plan, windows, ticks, f);
         post_weight(board, token, FnId(f as u8), line.share);
-        let _ = lines.push(line);
+        append(&mut lines, line);
     }
     lines
 }
