@@ -17,7 +17,7 @@ use Rattle.onvm_core.specs.Blocks.RoleKind.{Handles, Leads, Receives, Sends, Tic
 use Rattle.onvm_core.specs.History.{pops}
 use Rattle.onvm_core.specs.Layouts.{IsLayoutOf, tick_role}
 use Rattle.onvm_core.specs.Logs.{Log, Setting}
-use Rattle.onvm_core.specs.Places.{how_many}
+use Rattle.onvm_core.specs.Places.{how_many, one_if}
 use Rattle.onvm_core.specs.Potential.{popped_in}
 use Rattle.onvm_core.proofs.Lists.{if_met, if_unmet}
 use Rattle.onvm_core.proofs.Once.{how_many-append}
@@ -77,7 +77,7 @@ module _ (functions : ℕ) where
   posts_pop f (act ∷ log) are = pop_one f act are.0 (how_many (is_pop_of (Mail f)) log) (posts_pop f log are.1)
     where
       pop_one : (f : FnId) (act : Act) → IsWeightPost functions act → (n : ℕ) → n ≡ 0
-          → how_many (is_pop_of (Mail f)) (act ∷ []) + n ≡ 0
+          → one_if (is_pop_of (Mail f) act) + n ≡ 0
       pop_one f act (AWeight g weight known) n none = omega (arith, none)
 
   pub posts_dry : (f : FnId) (log before : Log) → ArePosts functions log

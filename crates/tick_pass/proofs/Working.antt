@@ -1,7 +1,7 @@
 -- The tick role in a pass and behind it.
 use Rattle.std.proofs.Common.{◌≡◌, ℕ, zero, suc, ◌+◌, ◌-◌, ◌<◌, ◌≤◌, Bool, true, false, List, [], ◌∷◌, ◌++◌, length, Some, None, refl, sym, ◌∙◌, ap, subst, arith, append-nil, length-append, Global, Vec, vec_capacity}
-use Rattle.std.specs.Prelude.{◌≢◌, ◌||◌, ◌%◌, min, nat_le, nat_lt, slice_get, slice_set, if◌then◌else◌}
-use Rattle.std.proofs.lemmas.Bool.{and_parts, ltb-true}
+use Rattle.std.specs.Prelude.{◌≢◌, ◌&&◌, ◌||◌, ◌%◌, min, nat_le, nat_lt, slice_get, slice_set, if◌then◌else◌}
+use Rattle.std.proofs.lemmas.Bool.{and_parts, ltb-true, true≢false}
 use Rattle.std.proofs.lemmas.Option.{none-some, same_Some, slice_get_within}
 use Rattle.onvm_base.specs.declared.function.FunctionPlan.{FunctionPlan}
 use Rattle.onvm_base.specs.declared.ids.FnId.{FnId}
@@ -109,7 +109,9 @@ line_there : (plan : Plan) (ticks : List Tick) (samples : List Sample) (now n k 
     ≡ Some (line_of plan ticks samples now (n + k) function)
 line_there plan ticks samples now n k [] function found = absurd (none-some function found)
 line_there plan ticks samples now n zero (g ∷ gs) function found =
+    let place : n ≡ n + 0 = omega arith in
     ap (λ (h : FunctionPlan). Some (line_of plan ticks samples now n h)) (same_Some g function found)
+    ∙ ap (λ f. Some (line_of plan ticks samples now f function)) place
 line_there plan ticks samples now n (suc k) (g ∷ gs) function found =
     let place : n + 1 + k ≡ n + suc k = omega arith in
     line_there plan ticks samples now (n + 1) k gs function found
@@ -248,3 +250,7 @@ mails_there site plan mails token layout_of are = record {
       let some : 1 ≤ length plan.functions = plan.kept.function_count.0 in
       absurd (omega (arith, some, layout_of.functions, are.long, ap length none));
 }
+
+pub and_open : (closing complete : Bool) → complete ≡ true → (closing && complete) ≡ false → closing ≡ false
+and_open false complete is open_now = refl
+and_open true complete is open_now = absurd (true≢false (sym is ∙ open_now))

@@ -36,8 +36,10 @@ loop-f-preserved c =
           (w.index-windows-f.is ∙ get_or_any windows f window (empty_window 0) (omega (arith, within, c.requires.windows.long)))
           in
           let other : FunctionPlan = w.index-functions-f-then-functions-f.result in
-          let priority : other.priority ≡ priority_at functions (number f) =
-          sym (ap priority_in
+          let value : ℕ = (get_or c.as_slice-functions.result.now f other).priority in
+          let priority : value ≡ priority_at functions (number f) =
+          ap (λ (g : FunctionPlan). g.priority) (sym w.index-functions-f-then-functions-f.is)
+          ∙ sym (ap priority_in
           (slice_get_read functions (length functions) f other refl within
           (w.index-functions-f-then-functions-f.is ∙ ap (λ fs. get_or fs f other) same)))
           in
@@ -55,10 +57,10 @@ loop-f-preserved c =
                 priorities
                 ∙ gathered (priority_at functions) c.loop-f.self.priorities.items
                 (map (priority_at functions) (residents c.args.core functions)) f c.args.core functions function
-                other.priority within read own priority was.priorities;
+                value within read own priority was.priorities;
             few = omega (arith, was.few, ap length loads, length_push c.loop-f.self.loads.items w.load_of.result);
             as_few =
-                omega (arith, was.as_few, ap length priorities, length_push c.loop-f.self.priorities.items other.priority);
+                omega (arith, was.as_few, ap length priorities, length_push c.loop-f.self.priorities.items value);
             room = subst HasCoreRoom (sym w.self-is) is.room;
           }
       | else-functions-f w ↦
