@@ -69,6 +69,7 @@ fn plan(alloc: Global) -> Result<Plan, NoMemory> {
 }
 
 // A board with the tokens of its core and its tick role, and a tick role that began at a moment.
+#[derive(Drop)]
 struct Desk {
     plan: Plan,
     board: Board,
