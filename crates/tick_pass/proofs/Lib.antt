@@ -1,3 +1,4 @@
+pub mod Examples
 pub mod Residing
 pub mod Sharing
 pub mod Windowing

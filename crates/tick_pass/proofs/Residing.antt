@@ -109,7 +109,7 @@ pub placed_at : (core place at : ℕ) (functions : List FunctionPlan) (function 
     → slice_get (residents core functions) place ≡ Some (number at)
 placed_at core place at functions function within is own placed =
     let whole : (placed.front ++ number at ∷ []) ++ residents_from (at + 1) core (drop (at + 1) functions)
-        ≡ residents core functions =
+    ≡ residents core functions =
     append_assoc placed.front (number at ∷ []) (residents_from (at + 1) core (drop (at + 1) functions))
     ∙ ap (λ rest. placed.front ++ rest) (sym (one_more at core functions function within is own)) ∙ placed.parts in
     ap (λ xs. slice_get xs place) (sym whole)

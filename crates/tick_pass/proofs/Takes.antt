@@ -99,7 +99,7 @@ pub count_told : (f : FnId) (now : ℕ) (log : Log) → AreTakes (λ g. g ≡ f)
 count_told f now [] are = refl
 count_told f now (act ∷ log) are =
     let both : length (kept_now samples_by now log ++ samples_by now act)
-        ≡ length (kept_now samples_by now log) + length (samples_by now act) =
+    ≡ length (kept_now samples_by now log) + length (samples_by now act) =
     length-append (kept_now samples_by now log) (samples_by now act) in
     omega (arith, both, count_told f now log are.1, one_told f now act are.0)
 

@@ -85,7 +85,7 @@ lines_next plan ticks samples now f lines all line known is so_far =
     let function : FunctionPlan = found.0 in
     let rest : List TickLine = lines_from plan ticks samples now (f + 1) (drop (f + 1) plan.functions) in
     let step : lines_from plan ticks samples now f (drop f plan.functions)
-        ≡ line_of plan ticks samples now f function ∷ rest =
+    ≡ line_of plan ticks samples now f function ∷ rest =
     ap (lines_from plan ticks samples now f)
     (drop-cons plan.functions f function known
     ∙ ap (λ (g : FunctionPlan). g ∷ drop (suc f) plan.functions)

@@ -236,9 +236,9 @@ mails_posted site plan now due samples ticks mails before after layout_of posted
     mail_heads_grown site mail_of site.layout.functions (posts_where due (lines_of plan ticks samples now)) before.hand
     before after posted mails
     (λ f less.
-        posts_popped site.layout.functions (number f) (posts_where due (lines_of plan ticks samples now))
-        (posts_where_are site.layout.functions due (lines_of plan ticks samples now)
-        (omega (arith, length_lines plan ticks samples now 0 plan.functions, layout_of.functions))))
+    posts_popped site.layout.functions (number f) (posts_where due (lines_of plan ticks samples now))
+    (posts_where_are site.layout.functions due (lines_of plan ticks samples now)
+    (omega (arith, length_lines plan ticks samples now 0 plan.functions, layout_of.functions))))
     are
 
 -- the ends are there

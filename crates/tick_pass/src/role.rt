@@ -234,7 +234,15 @@ impl TickRole {
     {
         let room = &mut self.room;
         age_out(&mut room.windows, now);
-        let lines = tell_lines(lines, &mut room.core, &room.windows, &room.ticks, token, board, plan);
+        let lines = tell_lines(
+            lines,
+            &mut room.core,
+            &room.windows,
+            &room.ticks,
+            token,
+            board,
+            plan,
+        );
         let tick = Tick {
             number: room.ticks.len() as u32 + 1,
             moment: now,

@@ -16,9 +16,9 @@ tell_lines-lines-requires-clause-windows c =
     let old = c.deref_mut.ensures.value in
     let aged = c.age_out.ensures ∙ ap (map (without_old c.args.now)) old in
     let whole =
-        written_whole c.age_out.new.windows windows c.args.self.now.room.windows.len
-        (ap length (sym old) ∙ c.deref_mut.ensures.len)
-        (ap length aged ∙ length-map windows (without_old c.args.now)) in
+    written_whole c.age_out.new.windows windows c.args.self.now.room.windows.len
+    (ap length (sym old) ∙ c.deref_mut.ensures.len)
+    (ap length aged ∙ length-map windows (without_old c.args.now)) in
     subst (AreLoaded c.args.plan.now) (sym (c.deref.ensures.value ∙ whole ∙ aged))
     (are_loaded c.args.plan.now c.args.now c.args.self.now.room.samples.items windows c.requires.role.windows)
 
@@ -35,15 +35,15 @@ returns-clause-tick c =
     let old = c.deref_mut.ensures.value in
     let aged = c.age_out.ensures ∙ ap (map (without_old c.args.now)) old in
     let whole =
-        written_whole c.age_out.new.windows windows c.args.self.now.room.windows.len
-        (ap length (sym old) ∙ c.deref_mut.ensures.len)
-        (ap length aged ∙ length-map windows (without_old c.args.now)) in
+    written_whole c.age_out.new.windows windows c.args.self.now.room.windows.len
+    (ap length (sym old) ∙ c.deref_mut.ensures.len)
+    (ap length aged ∙ length-map windows (without_old c.args.now)) in
     let current : AreCurrent plan samples c.args.now c.deref.result.now =
     subst (AreCurrent plan samples c.args.now) (sym (c.deref.ensures.value ∙ whole ∙ aged))
     (are_current plan c.args.now samples windows c.requires.role.windows) in
     let lines =
-        c.from_vec.ensures ∙ c.tell_lines-lines.ensures.lines samples c.args.now current
-        ∙ ap (λ (ts : List Tick). lines_of plan ts samples c.args.now) c.deref-2.ensures.value in
+    c.from_vec.ensures ∙ c.tell_lines-lines.ensures.lines samples c.args.now current
+    ∙ ap (λ (ts : List Tick). lines_of plan ts samples c.args.now) c.deref-2.ensures.value in
     let number : c.len.result + 1 ≡ length ticks + 1 = omega (arith, c.len.ensures, c.args.self.now.room.ticks.ok) in
     let taken : c.len-2.result ≡ length samples = omega (arith, c.len-2.ensures, c.args.self.now.room.samples.ok) in
     c.append.ensures.items
@@ -58,15 +58,15 @@ returns-clause-posted c =
     let old = c.deref_mut.ensures.value in
     let aged = c.age_out.ensures ∙ ap (map (without_old c.args.now)) old in
     let whole =
-        written_whole c.age_out.new.windows windows c.args.self.now.room.windows.len
-        (ap length (sym old) ∙ c.deref_mut.ensures.len)
-        (ap length aged ∙ length-map windows (without_old c.args.now)) in
+    written_whole c.age_out.new.windows windows c.args.self.now.room.windows.len
+    (ap length (sym old) ∙ c.deref_mut.ensures.len)
+    (ap length aged ∙ length-map windows (without_old c.args.now)) in
     let current : AreCurrent plan samples c.args.now c.deref.result.now =
     subst (AreCurrent plan samples c.args.now) (sym (c.deref.ensures.value ∙ whole ∙ aged))
     (are_current plan c.args.now samples windows c.requires.role.windows) in
     let lines =
-        c.tell_lines-lines.ensures.lines samples c.args.now current
-        ∙ ap (λ (ts : List Tick). lines_of plan ts samples c.args.now) c.deref-2.ensures.value in
+    c.tell_lines-lines.ensures.lines samples c.args.now current
+    ∙ ap (λ (ts : List Tick). lines_of plan ts samples c.args.now) c.deref-2.ensures.value in
     c.tell_lines-lines.ensures.posted
     ∙ ap (λ (ls : List TickLine). grown (posts_from 0 ls) c.args.token.now.hand c.args.token.now) lines
 
@@ -76,8 +76,8 @@ returns-clause-windows c =
     let old = c.deref_mut.ensures.value in
     let aged = c.age_out.ensures ∙ ap (map (without_old c.args.now)) old in
     let whole =
-        written_whole c.age_out.new.windows windows c.args.self.now.room.windows.len
-        (ap length (sym old) ∙ c.deref_mut.ensures.len)
-        (ap length aged ∙ length-map windows (without_old c.args.now)) in
+    written_whole c.age_out.new.windows windows c.args.self.now.room.windows.len
+    (ap length (sym old) ∙ c.deref_mut.ensures.len)
+    (ap length aged ∙ length-map windows (without_old c.args.now)) in
     subst (AreWindows c.args.plan.now c.args.now c.args.self.now.room.samples.items) (sym (whole ∙ aged))
     (windows_aged c.args.plan.now c.args.now c.args.self.now.room.samples.items windows c.requires.role.windows)

@@ -69,15 +69,15 @@ returns-clause-promise c entries moment so_far =
     let was = ticked c.args.self.now in
     let due : Bool = c.makes_tick-due.result in
     let taken =
-        subst (λ ss. HasTakenAll site.layout.functions now c.take_samples-taken.result before mid ss all)
-        c.reserve.ensures.samples c.take_samples-taken.ensures.taken in
+    subst (λ ss. HasTakenAll site.layout.functions now c.take_samples-taken.result before mid ss all)
+    c.reserve.ensures.samples c.take_samples-taken.ensures.taken in
     let same = ap (λ (v : Vec Tick Global). v.items) c.take_samples-taken.ensures.ticks.ticks ∙ c.reserve.ensures.ticks in
     let posted =
-        c.tick_if_due.ensures.posted
-        ∙ ap (λ (ts : List Tick). grown (posts_where due (lines_of plan ts all now)) mid.hand mid) same in
+    c.tick_if_due.ensures.posted
+    ∙ ap (λ (ts : List Tick). grown (posts_where due (lines_of plan ts all now)) mid.hand mid) same in
     let made =
-        c.tick_if_due.ensures.tick
-        ∙ ap (λ (ts : List Tick). ts ++ ticks_where due (tick_at plan ts all now)) same in
+    c.tick_if_due.ensures.tick
+    ∙ ap (λ (ts : List Tick). ts ++ ticks_where due (tick_at plan ts all now)) same in
     subst (λ (ss : List Sample).
     IsTickPromise (setting_of site.layout plan entries) before.role (first_of c.args.self.now) now c.args.closing moment
     before.log after.log ss was (ticked c.tick_if_due.new.self) c.answer_of.result)
@@ -105,12 +105,12 @@ returns-clause-role c =
     let kept = c.take_samples-taken.ensures.ticks in
     let same = ap (λ (v : Vec Tick Global). v.items) kept.ticks ∙ c.reserve.ensures.ticks in
     let made =
-        c.tick_if_due.ensures.tick
-        ∙ ap (λ (ts : List Tick). ts ++ ticks_where due (tick_at plan ts all now)) same in
+    c.tick_if_due.ensures.tick
+    ∙ ap (λ (ts : List Tick). ts ++ ticks_where due (tick_at plan ts all now)) same in
     let samples = ap (λ (v : Vec Sample Global). v.items) c.tick_if_due.ensures.samples in
     let told =
-        samples ∙ c.take_samples-taken.ensures.taken.taking.told
-        ∙ ap (λ (ss : List Sample). ss ++ kept_now samples_by now log) c.reserve.ensures.samples in
+    samples ∙ c.take_samples-taken.ensures.taken.taking.told
+    ∙ ap (λ (ss : List Sample). ss ++ kept_now samples_by now log) c.reserve.ensures.samples in
     let first_is = c.tick_if_due.ensures.first.0 ∙ kept.first ∙ rest.first in
     let later : last_sample_moment first (logged c.args.self.now) ≤ now = omega (arith, is.last_sample, c.requires.later) in
     record {
@@ -155,9 +155,9 @@ returns-clause-token c =
     let before = c.args.token.now in
     let mid = c.take_samples-taken.new.token in
     let posts =
-        posts_where c.makes_tick-due.result
-        (lines_of c.args.plan.now (ticked c.take_samples-taken.new.self) (logged c.take_samples-taken.new.self)
-        c.args.now) in (
+    posts_where c.makes_tick-due.result
+    (lines_of c.args.plan.now (ticked c.take_samples-taken.new.self) (logged c.take_samples-taken.new.self)
+    c.args.now) in (
       posts ++ taken.added,
       grown_twice taken.added posts before.hand before.hand before mid c.tick_if_due.new.token taken.taking.grew
           (c.tick_if_due.ensures.posted
