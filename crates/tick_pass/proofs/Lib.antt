@@ -1,4 +1,3 @@
-pub mod Examples
 pub mod Residing
 pub mod Sharing
 pub mod Windowing

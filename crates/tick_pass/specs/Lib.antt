@@ -1,4 +1,3 @@
-pub mod Examples
 pub mod Roles
 pub mod Taking
 pub mod Telling

@@ -12,8 +12,6 @@ mod mailbox;
 mod role;
 mod room;
 mod sample;
-#[cfg(test)]
-mod tests;
 mod tick;
 mod windows;
 
