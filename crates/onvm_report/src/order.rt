@@ -1,7 +1,6 @@
 //! Where a line stands among others.
 ghost use Rattle.std.specs.Prelude.{◌≡◌, ◌+◌, ◌*◌, ◌^◌};
 
-
 pub fn key(first: u8, second: u32) -> u64
     ensures { result ≡ first * 2 ^ 32 + second }
 {

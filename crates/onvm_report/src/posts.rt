@@ -61,11 +61,7 @@ fn add_names(lines: &mut Lines, functions: &[FunctionPlan], bits: u32) -> Result
 }
 
 // A name in a list of names.
-fn add_listed(
-    lines: &mut Lines,
-    function: &FunctionPlan,
-    is_first: bool,
-) -> Result<(), NoMemory>
+fn add_listed(lines: &mut Lines, function: &FunctionPlan, is_first: bool) -> Result<(), NoMemory>
     ensures { OnOk result (lines.new ≡ lines.old ++ (if is_first then function.now.name else codes "," ++ function.now.name)) }
 {
     if !is_first {

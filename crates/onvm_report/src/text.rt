@@ -9,10 +9,11 @@ use crate::printed::Printed;
 use crate::records::add_records;
 use crate::summary::add_summary;
 use crate::ticks::add_ticks;
-use onvm_base::{NoMemory, Plan, Text};
+use onvm_base::{FunctionPlan, NoMemory, Plan, Text};
 use std::alloc::Global;
 
-/// The report of what a run left: the summary, and the other parts where the options ask for them.
+/// The report of what a run of this plan left: the summary, and the other parts where the options
+/// ask for them.
 pub fn report(
     alloc: Global,
     plan: &Plan,
@@ -21,7 +22,18 @@ pub fn report(
 ) -> Result<Text, NoMemory>
     ensures { IfOk result (λ text. IsReport plan.now.functions printed.now options.now text) }
 {
-    let functions = plan.functions.as_slice();
+    text_of(alloc, plan.functions.as_slice(), printed, options)
+}
+
+/// The same of a plan with these functions.
+pub fn text_of(
+    alloc: Global,
+    functions: &[FunctionPlan],
+    printed: &Printed,
+    options: &Options,
+) -> Result<Text, NoMemory>
+    ensures { IfOk result (λ text. IsReport functions.now printed.now options.now text) }
+{
     let mut lines = Lines::none(alloc);
     add_summary(&mut lines, printed)?;
     if options.records {

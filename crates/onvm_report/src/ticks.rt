@@ -6,7 +6,11 @@ use crate::lines::Lines;
 use load_estimate::{Tick, TickLine};
 use onvm_base::{FunctionPlan, NoMemory};
 
-pub fn add_ticks(lines: &mut Lines, functions: &[FunctionPlan], ticks: &[Tick]) -> Result<(), NoMemory>
+pub fn add_ticks(
+    lines: &mut Lines,
+    functions: &[FunctionPlan],
+    ticks: &[Tick],
+) -> Result<(), NoMemory>
     ensures { OnOk result (lines.new ≡ lines.old ++ flat_map (tick_lines functions.now) ticks.now) }
 {
     for tick in ticks {

@@ -22,7 +22,7 @@ loop-function-preserved c =
     record {
       rest = ap (λ n. n / 2) c.loop-function.invariant.rest ∙ halved c.args.bits i;
       first = elim c.if-rest-eq1.branch [
-        then-rest-eq1+in_ok-add_listed w ↦
+        | then-rest-eq1+in_ok-add_listed w ↦
             w.is_first-is
             ∙ sym (ap (λ (others : List (List ℕ)). is_empty others) (set (search rules))
             ∙ is_empty_more names function.name)
@@ -31,7 +31,7 @@ loop-function-preserved c =
             ∙ ap (λ (others : List (List ℕ)). is_empty others) (sym (unset (search rules)))
       ];
       lines = elim c.if-rest-eq1.branch [
-        then-rest-eq1+in_ok-add_listed w ↦
+        | then-rest-eq1+in_ok-add_listed w ↦
             w.lines-is ∙ w.in_ok-add_listed.ensures
             ∙ ap (λ text. text ++ (if c.loop-function.is_first then function.name else codes "," ++ function.name))
             c.loop-function.invariant.lines
