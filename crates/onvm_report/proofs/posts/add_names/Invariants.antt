@@ -1,4 +1,4 @@
-use Rattle.std.proofs.Common.{◌≡◌, ◌++◌, ◌/◌, ◌^◌, [], Bool, true, false, List, ℕ, take, codes}
+use Rattle.std.proofs.Common.{◌≡◌, ◌++◌, ◌/◌, ◌^◌, List, ℕ, take, codes}
 use Rattle.std.specs.List.{join_by}
 use Rattle.onvm_report.specs.Report.{names_among}
 use Rattle.onvm_report.proofs.Names.{is_empty}

@@ -1,6 +1,5 @@
-use Rattle.std.proofs.Common.{◌≡◌, ◌∙◌, sym, ap, arith, ℕ, ◌+◌, ◌<◌, ◌≤◌, List, ◌++◌, ◌∷◌, [], length, take, get_or}
-use Rattle.std.specs.List.{flat_map, zip}
-use Rattle.std.proofs.lemmas.List.{flat_map_more}
+use Rattle.std.proofs.Common.{◌∙◌, ap, arith, ℕ, List, ◌++◌}
+use Rattle.std.specs.List.{flat_map}
 use Rattle.onvm_base.specs.declared.function.FunctionPlan.{FunctionPlan}
 use Rattle.load_estimate.specs.declared.tick.TickLine.{TickLine}
 use Rattle.onvm_report.specs.Report.{share_line}

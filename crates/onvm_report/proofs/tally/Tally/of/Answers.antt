@@ -1,5 +1,4 @@
-use Rattle.std.proofs.Common.{◌≡◌, ◌∙◌, ◌+◌, ap, arith, get_or}
-use Rattle.onvm_base.specs.declared.outcome.Record.{Record}
+use Rattle.std.proofs.Common.{◌∙◌, ◌+◌, ap}
 use Rattle.onvm_report.specs.Tally.{one_more, total}
 use Rattle.onvm_report.proofs.Tallies.{tally_more, total_more}
 use Rattle.onvm_report.proofs.tally.Tally.of.Goals as goal
