@@ -9,6 +9,8 @@ pub mod IdleRound
 pub mod IdleRun
 pub mod LastRound
 pub mod Leading
+pub mod OverloadPlan
+pub mod OverloadReceive
 pub mod Passing
 pub mod Peeling
 pub mod Phasing
