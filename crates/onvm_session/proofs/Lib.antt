@@ -12,6 +12,7 @@ pub mod Leading
 pub mod OverloadPasses
 pub mod OverloadPlan
 pub mod OverloadReceive
+pub mod OverloadSteps
 pub mod OverloadTurns
 pub mod Passing
 pub mod Peeling
