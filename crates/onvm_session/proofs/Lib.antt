@@ -9,6 +9,7 @@ pub mod IdleRound
 pub mod IdleRun
 pub mod LastRound
 pub mod Leading
+pub mod OverloadAccount
 pub mod OverloadPasses
 pub mod OverloadPlan
 pub mod OverloadReceive
