@@ -10,10 +10,12 @@ pub mod IdleRun
 pub mod LastRound
 pub mod Leading
 pub mod OverloadAccount
-pub mod OverloadPasses
+pub mod OverloadCore
 pub mod OverloadPlan
 pub mod OverloadReceive
+pub mod OverloadSend
 pub mod OverloadSteps
+pub mod OverloadTick
 pub mod OverloadTurns
 pub mod Passing
 pub mod Peeling

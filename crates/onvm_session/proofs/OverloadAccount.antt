@@ -1,13 +1,13 @@
 -- The serial run under overload has its account: three frames were sent, one was lost to a full lane, and one was
 -- throttled by a mark that a reading of the age had raised.
-use Rattle.std.proofs.Common.{◌≡◌, ℕ, zero, suc, ◌<◌, true, false, inl, inr, List, [], ◌∷◌, refl, sym, subst, arith, Some, None}
-use Rattle.std.specs.Prelude.{◌==◌, slice_get}
+use Rattle.std.proofs.Common.{◌≡◌, ℕ, zero, suc, ◌<◌, true, false, inr, List, [], ◌∷◌, refl, sym, subst, arith, Some, None}
+use Rattle.std.specs.Prelude.{slice_get}
 use Rattle.std.proofs.lemmas.Bool.{both_ways}
 use Rattle.onvm_base.specs.declared.frame.SentFrame.{SentFrame}
 use Rattle.onvm_base.specs.declared.ids.FnId.{FnId}
 use Rattle.onvm_base.specs.declared.ids.FrameId.{FrameId}
 use Rattle.onvm_base.specs.declared.ids.RingId.TheVariants.{Lane}
-use Rattle.onvm_base.specs.declared.outcome.Outcome.TheVariants.{RingFull, Sent, Throttled}
+use Rattle.onvm_base.specs.declared.outcome.Outcome.TheVariants.{RingFull, Sent}
 use Rattle.onvm_base.specs.declared.outcome.Record.{Record}
 use Rattle.onvm_core.specs.declared.entry.Entry.{Entry}
 use Rattle.onvm_core.specs.Blocks.{IsOfBlocks}
@@ -33,10 +33,12 @@ use Rattle.onvm_session.specs.SerialTicks.{AreSerialTicks, logged_by}
 use Rattle.onvm_session.specs.Turns.{Turn, joined_count, turn_steps}
 use Rattle.onvm_session.specs.Views.{turns_in}
 use Rattle.onvm_session.proofs.Accounted.{accounted, none_left}
-use Rattle.onvm_session.proofs.OverloadPasses.{closing_is, core_log, only, third_moved_is, third_served_is, tick_log}
+use Rattle.onvm_session.proofs.OverloadCore.{core_log, only, third_served_is}
 use Rattle.onvm_session.proofs.OverloadPlan.{e1, e2, e3, e4, ranges, setting, setting_is, layout}
 use Rattle.onvm_session.proofs.OverloadReceive.{held, third_is}
+use Rattle.onvm_session.proofs.OverloadSend.{third_moved_is}
 use Rattle.onvm_session.proofs.OverloadSteps.{all_back, history_is, past}
+use Rattle.onvm_session.proofs.OverloadTick.{closing_is, tick_log}
 use Rattle.onvm_session.proofs.OverloadTurns.{final, lead_is, logs, third_turns, whole}
 
 -- What the run hands back

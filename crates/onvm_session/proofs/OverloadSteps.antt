@@ -9,7 +9,7 @@ use Rattle.onvm_core.specs.declared.step.Item.TheVariants.{Number}
 use Rattle.onvm_core.specs.declared.step.Step.{Step}
 use Rattle.onvm_core.specs.History.{History, content_of, is_live, place_of}
 use Rattle.onvm_core.specs.Lawful.{Allows, HoldsNothing, IsLawful}
-use Rattle.onvm_core.specs.Layouts.{IsBuffer, ring_size}
+use Rattle.onvm_core.specs.Layouts.{IsBuffer}
 use Rattle.onvm_core.specs.Logs.{log_of}
 use Rattle.onvm_core.specs.Words.{pool_bits}
 use Rattle.onvm_core.proofs.Crowd.{f}
@@ -17,9 +17,11 @@ use Rattle.onvm_core.proofs.Steps.{◌◂◌, by, enters, finds_full, gives, joi
 use Rattle.onvm_session.specs.Turns.{steps_of}
 use Rattle.onvm_session.specs.Views.{IsHistoryOf}
 use Rattle.onvm_session.proofs.ExampleSteps.{finds_empty}
-use Rattle.onvm_session.proofs.OverloadPasses.{closing_pass, first_moved, first_served, second_moved, second_served, taken, third_moved, third_served}
+use Rattle.onvm_session.proofs.OverloadCore.{first_served, second_served, third_served}
 use Rattle.onvm_session.proofs.OverloadPlan.{bit_12, bit_14, bit_15, bit_8, layout}
 use Rattle.onvm_session.proofs.OverloadReceive.{holding, raising, second_entered, staying, turned_back}
+use Rattle.onvm_session.proofs.OverloadSend.{first_moved, second_moved, third_moved}
+use Rattle.onvm_session.proofs.OverloadTick.{closing_pass, taken}
 use Rattle.onvm_session.proofs.OverloadTurns.{final, logs}
 
 -- what a mailed sample asks for

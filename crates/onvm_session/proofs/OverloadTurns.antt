@@ -8,9 +8,11 @@ use Rattle.onvm_session.specs.Accounts.{AreWhole}
 use Rattle.onvm_session.specs.Turns.{Turn}
 use Rattle.onvm_session.specs.Views.{FinalView, AreTurns, IsSerialLead, turn_of, turns_in}
 use Rattle.onvm_session.specs.Views.AreTurns.{NoTurn, ATurn}
-use Rattle.onvm_session.proofs.OverloadPasses.{closing_is, core_log, first_moved_is, first_served_is, first_taken_is, second_moved_is, second_served_is, second_taken_is, send_log, third_moved_is, third_served_is, third_taken_is, tick_log}
+use Rattle.onvm_session.proofs.OverloadCore.{core_log, first_served_is, second_served_is, third_served_is}
 use Rattle.onvm_session.proofs.OverloadPlan.{layout, setting}
 use Rattle.onvm_session.proofs.OverloadReceive.{first_is, receive_log, second_is, third_is}
+use Rattle.onvm_session.proofs.OverloadSend.{first_moved_is, second_moved_is, send_log, third_moved_is}
+use Rattle.onvm_session.proofs.OverloadTick.{closing_is, first_taken_is, second_taken_is, third_taken_is, tick_log}
 
 abbrev pub logs : ℕ → Log
 logs zero = receive_log
