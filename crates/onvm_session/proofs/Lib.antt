@@ -12,6 +12,7 @@ pub mod Leading
 pub mod OverloadAccount
 pub mod OverloadCore
 pub mod OverloadPlan
+pub mod OverloadPromises
 pub mod OverloadReceive
 pub mod OverloadSend
 pub mod OverloadSteps
