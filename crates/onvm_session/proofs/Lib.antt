@@ -15,6 +15,7 @@ pub mod OverloadPlan
 pub mod OverloadPromises
 pub mod OverloadReceive
 pub mod OverloadSend
+pub mod OverloadSession
 pub mod OverloadSteps
 pub mod OverloadTick
 pub mod OverloadTurns

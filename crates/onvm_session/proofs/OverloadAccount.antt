@@ -56,7 +56,7 @@ samples = sample 0 ∷ sample 1000 ∷ sample 2000 ∷ []
 abbrev whole_share : Share
 whole_share = record { num = 300; den = 300; weight = 1024 }
 
-abbrev tick : Tick
+abbrev pub tick : Tick
 tick = record {
   number = 1;
   moment = 2000;
@@ -166,7 +166,7 @@ ascends {A} frame (x ∷ xs) all zero (suc j) a b less at_i at_j =
 ascends frame (x ∷ xs) all (suc i) (suc j) a b less at_i at_j =
     ascends frame xs all.1 i j a b (omega (arith, less)) at_i at_j
 
-records_ascend : Ascends (λ (told : Record). told.frame) run.records
+pub records_ascend : Ascends (λ (told : Record). told.frame) run.records
 records_ascend =
     ascends (λ (told : Record). told.frame) run.records
     ((inr (refl, omega arith) ◂ inr (refl, omega arith) ◂ inr (refl, omega arith) ◂ inr (refl, omega arith) ◂ tt)
@@ -176,7 +176,7 @@ records_ascend =
     ◂ tt
     ◂ tt)
 
-sent_ascend : Ascends (λ (sent : SentFrame). sent.frame) run.sent
+pub sent_ascend : Ascends (λ (sent : SentFrame). sent.frame) run.sent
 sent_ascend =
     ascends (λ (sent : SentFrame). sent.frame) run.sent
     ((inr (refl, omega arith) ◂ inr (refl, omega arith) ◂ tt) ◂ (inr (refl, omega arith) ◂ tt) ◂ tt ◂ tt)

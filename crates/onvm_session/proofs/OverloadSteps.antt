@@ -306,7 +306,7 @@ third_tick_is =
     ◂ splits refl refl (omega arith) refl
     ◂ third_send_is
 
-past_is_lawful : IsLawful layout past
+pub past_is_lawful : IsLawful layout past
 unfolding pool_bits
 past_is_lawful =
     looks refl (omega arith, omega arith) refl tt
