@@ -18,7 +18,6 @@ pub mod OverloadSend
 pub mod OverloadSession
 pub mod OverloadSteps
 pub mod OverloadTick
-pub mod OverloadTurns
 pub mod Passing
 pub mod Peeling
 pub mod Phasing

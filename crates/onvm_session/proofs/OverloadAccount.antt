@@ -1,62 +1,46 @@
 -- The serial run under overload has its account: three frames were sent, one was lost to a full lane, and one was
--- throttled by a mark that a reading of the age had raised.
-use Rattle.std.proofs.Common.{◌≡◌, ℕ, zero, suc, ◌<◌, true, false, inr, List, [], ◌∷◌, refl, sym, subst, arith, Some, None}
+-- throttled by a mark that a reading of the age had raised. Its tick role makes the closing turn, and the headline's law
+-- gives the account.
+use Rattle.std.proofs.Common.{◌≡◌, ℕ, zero, suc, ◌<◌, true, inr, List, [], ◌∷◌, refl, sym, subst, arith, Some, None}
 use Rattle.std.specs.Prelude.{slice_get}
-use Rattle.std.proofs.lemmas.Bool.{both_ways}
 use Rattle.onvm_base.specs.declared.frame.SentFrame.{SentFrame}
 use Rattle.onvm_base.specs.declared.ids.FnId.{FnId}
 use Rattle.onvm_base.specs.declared.ids.FrameId.{FrameId}
 use Rattle.onvm_base.specs.declared.ids.RingId.TheVariants.{Lane}
-use Rattle.onvm_base.specs.declared.outcome.Outcome.TheVariants.{RingFull, Sent}
+use Rattle.onvm_base.specs.declared.outcome.Outcome.TheVariants.{RingFull}
 use Rattle.onvm_base.specs.declared.outcome.Record.{Record}
-use Rattle.onvm_core.specs.declared.entry.Entry.{Entry}
-use Rattle.onvm_core.specs.Blocks.{IsOfBlocks}
-use Rattle.onvm_core.specs.Journals.{GoesThrough, journal}
-use Rattle.onvm_core.specs.Layouts.{core_role}
+use Rattle.onvm_core.specs.Logs.{log_of}
 use Rattle.onvm_core.proofs.Crowd.{f}
 use Rattle.onvm_core.proofs.Steps.{◌◂◌}
 use Rattle.load_estimate.specs.declared.sample.Sample.{Sample}
 use Rattle.load_estimate.specs.declared.tick.Share.{Share}
 use Rattle.load_estimate.specs.declared.tick.Tick.{Tick}
 use Rattle.onvm_promises.specs.Lines.{weights_posted}
-use Rattle.onvm_promises.specs.Passes.{IsTickPass}
-use Rattle.onvm_promises.specs.Rests.{IsSettledFeeder}
-use Rattle.onvm_promises.specs.Sampling.{IsSampled, is_cost}
-use Rattle.onvm_promises.specs.Stretches.{log_until, stretch}
+use Rattle.onvm_promises.specs.Roles.{IsTickPromise}
+use Rattle.onvm_promises.specs.Sampling.{is_cost}
 use Rattle.onvm_promises.specs.Ticks.{weights_in}
+use Rattle.onvm_promises.specs.declared.pass.Pass.TheVariants.{Did}
 use Rattle.onvm_promises.proofs.ExamplePromises.{counts}
-use Rattle.onvm_session.specs.Accounts.{AreShares, IsAccounted, RunView, aged_of}
-use Rattle.onvm_session.specs.Endings.{HasEnded, HasLists, IsClosed}
+use Rattle.onvm_session.specs.Accounts.{IsAccounted, RunView}
+use Rattle.onvm_session.specs.Endings.{HasLists, IsClosed, Closes, closing_moments}
 use Rattle.onvm_session.specs.Lists.{Ascends, ComesBefore}
-use Rattle.onvm_session.specs.Moments.{moment_in}
-use Rattle.onvm_session.specs.SerialTicks.{AreSerialTicks, logged_by}
-use Rattle.onvm_session.specs.Turns.{Turn, joined_count, turn_steps}
-use Rattle.onvm_session.specs.Views.{turns_in}
-use Rattle.onvm_session.proofs.Accounted.{accounted, none_left}
-use Rattle.onvm_session.proofs.OverloadCore.{core_log, only, third_served_is}
-use Rattle.onvm_session.proofs.OverloadPlan.{e1, e2, e3, e4, ranges, setting, setting_is, layout}
-use Rattle.onvm_session.proofs.OverloadReceive.{held, third_is}
-use Rattle.onvm_session.proofs.OverloadSend.{third_moved_is}
-use Rattle.onvm_session.proofs.OverloadSteps.{all_back, history_is, past}
-use Rattle.onvm_session.proofs.OverloadTick.{closing_is, tick_log}
-use Rattle.onvm_session.proofs.OverloadTurns.{final, lead_is, logs, third_turns, whole}
+use Rattle.onvm_session.specs.Sessions.{Keeps, after_turn}
+use Rattle.onvm_session.proofs.Accounted.{none_left}
+use Rattle.onvm_session.proofs.Done.{done}
+use Rattle.onvm_session.proofs.OverloadCore.{only}
+use Rattle.onvm_session.proofs.OverloadPlan.{e1, e2, e3, e4, ranges, setting, setting_is}
+use Rattle.onvm_session.proofs.OverloadPromises.{sample, sent_as, told}
+use Rattle.onvm_session.proofs.OverloadReceive.{held}
+use Rattle.onvm_session.proofs.OverloadSession.{third_tick, third_tick_holds, tick_keeps}
+use Rattle.onvm_session.proofs.OverloadSteps.{all_back, past, past_is_lawful}
+use Rattle.onvm_session.proofs.OverloadTick.{closing_is, tick_log, closing_pass, three_taken}
 
 -- What the run hands back
-
-abbrev moments : ℕ → ℕ → ℕ
-moments role number = moment_in layout (turn_steps logs (turns_in final)) role number
-
--- each handled frame took the function's cost
-abbrev sample : ℕ → Sample
-sample moment = record { function = f; moment = moment; count = 1; time = 100 }
-
-abbrev samples : List Sample
-samples = sample 0 ∷ sample 1000 ∷ sample 2000 ∷ []
 
 abbrev whole_share : Share
 whole_share = record { num = 300; den = 300; weight = 1024 }
 
-abbrev pub tick : Tick
+abbrev tick : Tick
 tick = record {
   number = 1;
   moment = 2000;
@@ -66,17 +50,12 @@ tick = record {
       ∷ [];
 }
 
-abbrev sent_as : Entry → SentFrame
-sent_as e = record { frame = e.frame; stamp = e.stamp; packet = e.packet }
+abbrev samples : List Sample
+samples = sample 0 ∷ sample 1000 ∷ sample 2000 ∷ []
 
 abbrev pub run : RunView
 run = record {
-  records = record { frame = e1.frame; outcome = Sent 0 }
-      ∷ record { frame = e2.frame; outcome = Sent 0 }
-      ∷ record { frame = e3.frame; outcome = Sent 0 }
-      ∷ record { frame = e4.frame; outcome = RingFull (Lane f 0) }
-      ∷ held
-      ∷ [];
+  records = told e1 ∷ told e2 ∷ told e3 ∷ record { frame = e4.frame; outcome = RingFull (Lane f 0) } ∷ held ∷ [];
   sent = sent_as e1 ∷ sent_as e2 ∷ sent_as e3 ∷ [];
   posts = record { feeder = 0; number = 1; moment = 1000; bits = 1 } ∷ [];
   samples = samples;
@@ -84,59 +63,53 @@ run = record {
   yields = 0;
   lost = 0;
   left = 0;
-  final = final;
+  final = after_turn 3 15 tick_log third_tick.view;
 }
 
--- the reading in the first marks pass had the age of 1,000 nanoseconds
-old : aged_of setting moments logs 0 0 0 ≡ true
-old = refl
+-- The closing turn, at the last round's moment
 
--- The board, the logs and the lists
+abbrev closing_keeps : Keeps
+closing_keeps = tick_keeps samples (tick ∷ [])
+
+closing_turn : IsTickPromise setting 3 0 2000 true (third_tick.moments 3) three_taken tick_log closing_keeps.samples []
+    closing_keeps.ticks (Did 1)
+closing_turn = record {
+  added = closing_pass;
+  grown = refl;
+  so_far = record { blocks = closing_is.blocks; kept = refl };
+  ticked = refl;
+  posts = λ g known.
+      subst (λ (h : FnId). weights_in h closing_pass ≡ weights_posted h.0 (tick ∷ [])) (only g known) refl;
+  whole = λ e. closing_is;
+  tells = (omega arith, refl);
+}
+
+closes : Closes true (λ n. ⊥) setting third_tick.moments 0 third_tick_holds.0 third_tick.view third_tick.keeps 15 2000
+    tick_log closing_keeps run
+closes = record {
+  answer = Did 1;
+  pass = closing_turn;
+  complete = refl;
+  at = (refl, omega arith, refl);
+  view = refl;
+  samples = refl;
+  ticks = refl;
+}
+
+-- The board and the lists
+
+logs_are : (role : ℕ) → role < 4 → run.final.logs role ≡ log_of role past
+logs_are zero less = refl
+logs_are (suc zero) less = refl
+logs_are (suc (suc zero)) less = refl
+logs_are (suc (suc (suc zero))) less = refl
+logs_are (suc (suc (suc (suc n)))) less = absurd (omega (arith, less))
 
 closed : IsClosed setting run
-closed = record { past = past; history = history_is; left = sym (none_left setting past all_back) }
-
-blocks_are : (role : ℕ) → role < 4 → IsOfBlocks setting role (logs role)
-blocks_are zero less = (third_is (aged_of setting moments logs 0) old).rests.blocks
-blocks_are (suc zero) less = (third_moved_is (aged_of setting moments logs 1)).rests.blocks
-blocks_are (suc (suc zero)) less = third_served_is.rests.blocks
-blocks_are (suc (suc (suc zero))) less = closing_is.blocks
-blocks_are (suc (suc (suc (suc n)))) less = absurd (omega (arith, less))
-
-feeders_are : (feeder : ℕ) → feeder < 2
-    → IsSettledFeeder setting feeder (aged_of setting moments logs feeder) (logs feeder)
-feeders_are zero less = (third_is (aged_of setting moments logs 0) old).rests.feeder
-feeders_are (suc zero) less = (third_moved_is (aged_of setting moments logs 1)).rests.feeder
-feeders_are (suc (suc n)) less = absurd (omega (arith, less))
-
-closes : (t : Turn) (ts : List Turn) → turns_in final ≡ t ∷ ts
-    → IsTickPass setting t.role (log_until (joined_count t.role ts) (logs t.role))
-    (stretch (joined_count t.role ts) t.count (logs t.role))
-closes t ts e =
-    let head : ◌≡◌ {A = Turn} (record { role = 3; count = 8 }) t = cc in
-    let rest : third_turns ≡ ts = cc in
-    subst (λ (u : Turn).
-    IsTickPass setting u.role (log_until (joined_count u.role ts) (logs u.role))
-    (stretch (joined_count u.role ts) u.count (logs u.role))) head
-    (subst (λ (us : List Turn).
-    IsTickPass setting 3 (log_until (joined_count 3 us) (logs 3)) (stretch (joined_count 3 us) 8 (logs 3))) rest
-    closing_is)
-
--- the function went from 0 to 3
-ended : HasEnded true (λ n. ⊥) counts (λ g. 0) setting moments run
-ended = record {
-  lead = lead_is;
-  blocks = blocks_are;
-  feeders = feeders_are;
-  whole = λ e. whole (aged_of setting moments logs) old;
-  timed = λ role number less. refl;
-  recorded = refl;
-  closing = closes;
-  journals = λ g known. (
-    3,
-    subst (λ (h : FnId). GoesThrough (counts h.0) 0 (journal h (logs (core_role layout h.0))) 3) (only g known)
-        (1, (refl, refl, refl), (2, (refl, refl, refl), (3, (refl, refl, refl), refl))),
-  );
+closed = record {
+  past = past;
+  history = record { lawful = past_is_lawful; lead = refl; logs = logs_are; counts = refl };
+  left = sym (none_left setting past all_back);
 }
 
 -- each of these comes behind the frame
@@ -166,7 +139,7 @@ ascends {A} frame (x ∷ xs) all zero (suc j) a b less at_i at_j =
 ascends frame (x ∷ xs) all (suc i) (suc j) a b less at_i at_j =
     ascends frame xs all.1 i j a b (omega (arith, less)) at_i at_j
 
-pub records_ascend : Ascends (λ (told : Record). told.frame) run.records
+records_ascend : Ascends (λ (told : Record). told.frame) run.records
 records_ascend =
     ascends (λ (told : Record). told.frame) run.records
     ((inr (refl, omega arith) ◂ inr (refl, omega arith) ◂ inr (refl, omega arith) ◂ inr (refl, omega arith) ◂ tt)
@@ -176,12 +149,12 @@ records_ascend =
     ◂ tt
     ◂ tt)
 
-pub sent_ascend : Ascends (λ (sent : SentFrame). sent.frame) run.sent
+sent_ascend : Ascends (λ (sent : SentFrame). sent.frame) run.sent
 sent_ascend =
     ascends (λ (sent : SentFrame). sent.frame) run.sent
     ((inr (refl, omega arith) ◂ inr (refl, omega arith) ◂ tt) ◂ (inr (refl, omega arith) ◂ tt) ◂ tt ◂ tt)
 
-lists : HasLists setting moments run
+lists : HasLists setting (closing_moments setting third_tick.moments third_tick.view 2000) run
 lists = record {
   records = λ test. omega arith;
   records_ascend = records_ascend;
@@ -192,63 +165,8 @@ lists = record {
   lost = refl;
 }
 
--- The samples and the tick
-
-never : {P : Type 0} → false ≡ true → P
-never e = absurd (let off : false ≡ true = e in cc)
-
--- the look at the weight word is the first act of each pass
-mails : IsSampled is_cost setting.plan f core_log
-mails = record {
-  counted = third_served_is.rests.samples;
-  timed = (100, refl, refl) ◂ tt ◂ tt ◂ tt ◂ tt ◂ tt ◂ (100, refl, refl) ◂ tt ◂ tt ◂ tt ◂ tt ◂ tt ◂ (100, refl, refl)
-      ◂ tt
-      ◂ tt
-      ◂ tt
-      ◂ tt
-      ◂ tt;
-  even = never ◂ never ◂ never ◂ never ◂ never ◂ (λ e. refl) ◂ never ◂ never ◂ never ◂ never ◂ never ◂ (λ e. refl)
-      ◂ never
-      ◂ never
-      ◂ never
-      ◂ never
-      ◂ (λ e. refl)
-      ◂ tt;
-  even_now = refl;
-  none_left = refl;
-}
-
-taken_is : (at : ℕ) (t : Tick) → slice_get (tick ∷ []) at ≡ Some t → t.taken ≡ logged_by samples t.moment
-taken_is zero t found =
-    let same : ◌≡◌ {A = Tick} tick t = cc in subst (λ (u : Tick). u.taken ≡ logged_by samples u.moment) same refl
-taken_is (suc n) t found = absurd (let off : None ≡ Some t = found in cc)
-
-serial_is : AreSerialTicks setting.plan 3 samples (tick ∷ [])
-serial_is = record { moments = refl; taken = λ less. taken_is }
-
-shares : AreShares true (λ n. ⊥) is_cost setting moments run
-shares = record {
-  mailed = λ g known.
-      subst (λ (h : FnId). IsSampled is_cost setting.plan h (logs (core_role layout h.0))) (only g known) mails;
-  samples = refl;
-  never_fall = omega arith ◂ omega arith ◂ omega arith ◂ tt;
-  first = 0;
-  ticks = record {
-    made = [];
-    closing = tick;
-    parts = refl;
-    are = (refl, omega arith, refl, tt);
-    apart = tt;
-    later = omega arith;
-    rise = omega arith ◂ tt;
-    all = refl;
-    posted = λ g known.
-        subst (λ (h : FnId). weights_in h tick_log ≡ weights_posted h.0 (tick ∷ [])) (only g known) refl;
-  };
-  serial_ticks = λ e. (refl, (3, serial_is));
-  told_ticks = λ e. absurd (both_ways true e refl);
-}
-
 pub overload_accounted : IsAccounted true (λ n. ⊥) is_cost counts (λ g. 0) setting run
 overload_accounted =
-    accounted true (λ n. ⊥) is_cost counts (λ g. 0) setting moments run ranges setting_is closed ended lists shares
+    done true (λ n. ⊥) counts (λ g. 0) (λ g. 3) is_cost setting third_tick.moments 0 third_tick_holds.0
+    third_tick.view third_tick.keeps 15 2000 tick_log closing_keeps run ranges setting_is third_tick_holds.1
+    closes closed lists refl

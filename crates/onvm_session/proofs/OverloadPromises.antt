@@ -1,5 +1,5 @@
 -- The twelve turns of the run under overload are what passes promise, each with its answer and with what the role keeps.
-use Rattle.std.proofs.Common.{◌≡◌, ℕ, false, List, [], ◌∷◌, ◌++◌, refl, subst, arith, None}
+use Rattle.std.proofs.Common.{ℕ, false, List, [], ◌∷◌, ◌++◌, refl, subst, arith, None}
 use Rattle.onvm_base.specs.declared.frame.SentFrame.{SentFrame}
 use Rattle.onvm_base.specs.declared.ids.FnId.{FnId}
 use Rattle.onvm_base.specs.declared.ids.RingId.TheVariants.{Lane}
@@ -14,7 +14,6 @@ use Rattle.onvm_promises.specs.declared.pass.Pass.TheVariants.{Did, Idle}
 use Rattle.onvm_promises.specs.Kept.{FeederKeeps, moment_then}
 use Rattle.onvm_promises.specs.Roles.{IsCorePromise, IsReceivePromise, IsSendPromise, IsTickPromise}
 use Rattle.onvm_promises.specs.Sampling.{is_cost}
-use Rattle.onvm_promises.specs.Times.{aged_by}
 use Rattle.onvm_promises.proofs.ExamplePromises.{counts}
 use Rattle.onvm_session.proofs.OverloadCore.{core_log, first_served, first_served_is, only, second_served, second_served_is, third_served, third_served_is, two_served}
 use Rattle.onvm_session.proofs.OverloadPlan.{e1, e2, e3, e4, setting}

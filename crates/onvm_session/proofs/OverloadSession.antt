@@ -1,58 +1,47 @@
--- The run under overload is a session's: from the start each turn keeps the loop's invariant, the tick role makes the
--- closing turn, and the headline's law gives the account.
-use Rattle.std.proofs.Common.{◌≡◌, ◌≢◌, ℕ, zero, suc, ◌<◌, true, false, List, [], ◌∷◌, length, refl, sym, ◌∙◌, subst, arith, None}
+-- The run under overload is a session's: from the start each of its twelve turns keeps the loop's invariant.
+use Rattle.std.proofs.Common.{◌≡◌, ℕ, true, false, List, [], ◌∷◌, length, refl, sym, subst, None}
 use Rattle.onvm_base.specs.declared.ids.FnId.{FnId}
 use Rattle.onvm_core.specs.Blocks.{kind_of}
-use Rattle.onvm_core.specs.Handling.{IsOwn}
 use Rattle.onvm_core.specs.Layouts.{core_role}
-use Rattle.onvm_core.specs.Logs.{Log, log_of}
+use Rattle.onvm_core.specs.Logs.{Log}
 use Rattle.load_estimate.specs.declared.sample.Sample.{Sample}
 use Rattle.load_estimate.specs.declared.tick.Tick.{Tick}
 use Rattle.onvm_promises.specs.declared.pass.Pass.{Pass}
 use Rattle.onvm_promises.specs.declared.pass.Pass.TheVariants.{Did, Idle}
 use Rattle.onvm_promises.specs.Answers.{is_complete}
 use Rattle.onvm_promises.specs.Kept.{FeederKeeps, moment_then}
-use Rattle.onvm_promises.specs.Lines.{weights_posted}
-use Rattle.onvm_promises.specs.Roles.{IsTickPromise}
 use Rattle.onvm_promises.specs.Sampling.{is_cost}
-use Rattle.onvm_promises.specs.Ticks.{weights_in}
 use Rattle.onvm_promises.proofs.ExamplePromises.{counts}
-use Rattle.onvm_session.specs.Accounts.{IsAccounted, RunView}
-use Rattle.onvm_session.specs.Endings.{Closes, HasLists, IsClosed, closing_moments}
 use Rattle.onvm_session.specs.Moments.{moment_of_round, round_of_turn}
 use Rattle.onvm_session.specs.Sessions.{IsRolePass, IsSession, Keeps, OthersKeep, after_turn, with_keeps, with_moment}
 use Rattle.onvm_session.specs.Starts.{first_view, no_keeps}
 use Rattle.onvm_session.specs.Views.{FinalView, place_in, role_at, turns_in}
-use Rattle.onvm_session.proofs.Accounted.{none_left}
-use Rattle.onvm_session.proofs.Done.{done}
-use Rattle.onvm_session.proofs.OverloadAccount.{records_ascend, run, sent_ascend, tick}
 use Rattle.onvm_session.proofs.OverloadCore.{core_log, first_served, only, two_served}
-use Rattle.onvm_session.proofs.OverloadPlan.{e1, e2, e3, layout, ranges, setting, setting_is}
+use Rattle.onvm_session.proofs.OverloadPlan.{e1, e2, e3, layout, ranges, setting}
 use Rattle.onvm_session.proofs.OverloadPromises.{handles_first, handles_second, handles_third, held_keeps, holds_one, moves_first, moves_second, moves_third, receives_four, sample, sent_as, sent_keeps, stays_raised, takes_first, takes_second, takes_third, told, turned_keeps}
 use Rattle.onvm_session.proofs.OverloadReceive.{held_log, receive_log, turned_back}
 use Rattle.onvm_session.proofs.OverloadSend.{first_moved, send_log, two_moved}
-use Rattle.onvm_session.proofs.OverloadSteps.{all_back, past, past_is_lawful}
-use Rattle.onvm_session.proofs.OverloadTick.{closing_is, closing_pass, taken, three_taken, tick_log, two_taken}
+use Rattle.onvm_session.proofs.OverloadTick.{taken, three_taken, two_taken}
 use Rattle.onvm_session.proofs.Session.{turn_keeps}
 use Rattle.onvm_session.proofs.Starting.{session_starts}
 
 -- Where a session stands: the functions' states, the moments of acts, the first token's view, and what roles keep
-record Standing : Type 0 where
-  state : ℕ → ℕ
-  moments : ℕ → ℕ → ℕ
-  view : FinalView
-  keeps : ℕ → Keeps
+pub record Standing : Type 0 where
+  pub state : ℕ → ℕ
+  pub moments : ℕ → ℕ → ℕ
+  pub view : FinalView
+  pub keeps : ℕ → Keeps
 
-abbrev HoldsAt : (state : ℕ → ℕ) → (ℕ → ℕ → ℕ) → FinalView → (ℕ → Keeps) → Type 0
+abbrev pub HoldsAt : (state : ℕ → ℕ) → (ℕ → ℕ → ℕ) → FinalView → (ℕ → Keeps) → Type 0
 HoldsAt state moments view keeps =
     (latest : ℕ)
     × IsSession true (λ n. ⊥) counts (λ g. 0) state is_cost setting moments 0 latest view keeps
 
-abbrev Holds : Standing → Type 0
+abbrev pub Holds : Standing → Type 0
 Holds now = HoldsAt now.state now.moments now.view now.keeps
 
 -- behind a turn of a role, at this moment
-abbrev behind : Standing → (role seen moment : ℕ) → Log → Keeps → (state : ℕ → ℕ) → Standing
+abbrev pub behind : Standing → (role seen moment : ℕ) → Log → Keeps → (state : ℕ → ℕ) → Standing
 behind was role seen moment after kept state =
     record {
       state = state;
@@ -90,162 +79,98 @@ others_keep state now h other mine apart =
 
 -- The standings, turn by turn
 
-abbrev feeder_keeps : FeederKeeps → Keeps
+abbrev pub feeder_keeps : FeederKeeps → Keeps
 feeder_keeps keeps = record no_keeps { feeder = keeps }
 
-abbrev tick_keeps : List Sample → List Tick → Keeps
+abbrev pub tick_keeps : List Sample → List Tick → Keeps
 tick_keeps samples ticks = record no_keeps { samples = samples; ticks = ticks }
 
-abbrev at_start : Standing
+abbrev pub at_start : Standing
 at_start = record { state = λ g. 0; moments = λ role number. 0; view = first_view; keeps = λ role. no_keeps }
 
 starts : Holds at_start
 starts = (0, session_starts true (λ n. ⊥) counts (λ g. 0) is_cost setting (λ role number. 0) 0 refl)
 
-abbrev first_receive : Standing
+abbrev pub first_receive : Standing
 first_receive = behind at_start 0 8 0 turned_back (feeder_keeps turned_keeps) (λ g. 0)
 
 first_receive_holds : Holds first_receive
 first_receive_holds =
     turn at_start 0 8 0 turned_back (feeder_keeps turned_keeps) (λ g. 0) (Did 4) starts refl refl receives_four refl (λ h other mine apart. refl)
 
-abbrev first_core : Standing
+abbrev pub first_core : Standing
 first_core = behind first_receive 2 8 0 first_served no_keeps (λ g. 1)
 
 first_core_holds : Holds first_core
 first_core_holds =
     turn first_receive 2 8 0 first_served no_keeps (λ g. 1) (Did 1) first_receive_holds refl refl (None, handles_first) refl (others_keep (λ g. 0) (λ g. 1))
 
-abbrev first_send : Standing
+abbrev pub first_send : Standing
 first_send = behind first_core 1 9 0 first_moved (feeder_keeps (sent_keeps (told e1 ∷ []) (sent_as e1 ∷ []))) (λ g. 1)
 
 first_send_holds : Holds first_send
 first_send_holds =
     turn first_core 1 9 0 first_moved (feeder_keeps (sent_keeps (told e1 ∷ []) (sent_as e1 ∷ []))) (λ g. 1) (Did 1) first_core_holds refl refl (moves_first 0 _) refl (λ h other mine apart. refl)
 
-abbrev first_tick : Standing
+abbrev pub first_tick : Standing
 first_tick = behind first_send 3 9 0 taken (tick_keeps (sample 0 ∷ []) []) (λ g. 1)
 
 first_tick_holds : Holds first_tick
 first_tick_holds =
     turn first_send 3 9 0 taken (tick_keeps (sample 0 ∷ []) []) (λ g. 1) (Did 1) first_send_holds refl refl takes_first refl (λ h other mine apart. refl)
 
-abbrev second_receive : Standing
+abbrev pub second_receive : Standing
 second_receive = behind first_tick 0 9 1000 held_log (feeder_keeps held_keeps) (λ g. 1)
 
 second_receive_holds : Holds second_receive
 second_receive_holds =
     turn first_tick 0 9 1000 held_log (feeder_keeps held_keeps) (λ g. 1) (Did 1) first_tick_holds refl refl holds_one refl (λ h other mine apart. refl)
 
-abbrev second_core : Standing
+abbrev pub second_core : Standing
 second_core = behind second_receive 2 9 1000 two_served no_keeps (λ g. 2)
 
 second_core_holds : Holds second_core
 second_core_holds =
     turn second_receive 2 9 1000 two_served no_keeps (λ g. 2) (Did 1) second_receive_holds refl refl (None, handles_second) refl (others_keep (λ g. 1) (λ g. 2))
 
-abbrev second_send : Standing
+abbrev pub second_send : Standing
 second_send = behind second_core 1 11 1000 two_moved (feeder_keeps (sent_keeps (told e1 ∷ told e2 ∷ []) (sent_as e1 ∷ sent_as e2 ∷ []))) (λ g. 2)
 
 second_send_holds : Holds second_send
 second_send_holds =
     turn second_core 1 11 1000 two_moved (feeder_keeps (sent_keeps (told e1 ∷ told e2 ∷ []) (sent_as e1 ∷ sent_as e2 ∷ []))) (λ g. 2) (Did 1) second_core_holds refl refl (moves_second 1000 _) refl (λ h other mine apart. refl)
 
-abbrev second_tick : Standing
+abbrev pub second_tick : Standing
 second_tick = behind second_send 3 11 1000 two_taken (tick_keeps (sample 0 ∷ sample 1000 ∷ []) []) (λ g. 2)
 
 second_tick_holds : Holds second_tick
 second_tick_holds =
     turn second_send 3 11 1000 two_taken (tick_keeps (sample 0 ∷ sample 1000 ∷ []) []) (λ g. 2) (Did 1) second_send_holds refl refl takes_second refl (λ h other mine apart. refl)
 
-abbrev third_receive : Standing
+abbrev pub third_receive : Standing
 third_receive = behind second_tick 0 11 2000 receive_log (feeder_keeps held_keeps) (λ g. 2)
 
 third_receive_holds : Holds third_receive
 third_receive_holds =
     turn second_tick 0 11 2000 receive_log (feeder_keeps held_keeps) (λ g. 2) Idle second_tick_holds refl refl stays_raised refl (λ h other mine apart. refl)
 
-abbrev third_core : Standing
+abbrev pub third_core : Standing
 third_core = behind third_receive 2 11 2000 core_log no_keeps (λ g. 3)
 
 third_core_holds : Holds third_core
 third_core_holds =
     turn third_receive 2 11 2000 core_log no_keeps (λ g. 3) (Did 1) third_receive_holds refl refl (None, handles_third) refl (others_keep (λ g. 2) (λ g. 3))
 
-abbrev third_send : Standing
+abbrev pub third_send : Standing
 third_send = behind third_core 1 15 2000 send_log (feeder_keeps (sent_keeps (told e1 ∷ told e2 ∷ told e3 ∷ []) (sent_as e1 ∷ sent_as e2 ∷ sent_as e3 ∷ []))) (λ g. 3)
 
 third_send_holds : Holds third_send
 third_send_holds =
     turn third_core 1 15 2000 send_log (feeder_keeps (sent_keeps (told e1 ∷ told e2 ∷ told e3 ∷ []) (sent_as e1 ∷ sent_as e2 ∷ sent_as e3 ∷ []))) (λ g. 3) (Did 1) third_core_holds refl refl (moves_third 2000 _) refl (λ h other mine apart. refl)
 
-abbrev third_tick : Standing
+abbrev pub third_tick : Standing
 third_tick = behind third_send 3 15 2000 three_taken (tick_keeps (sample 0 ∷ sample 1000 ∷ sample 2000 ∷ []) []) (λ g. 3)
 
-third_tick_holds : Holds third_tick
+pub third_tick_holds : Holds third_tick
 third_tick_holds =
     turn third_send 3 15 2000 three_taken (tick_keeps (sample 0 ∷ sample 1000 ∷ sample 2000 ∷ []) []) (λ g. 3) (Did 1) third_send_holds refl refl takes_third refl (λ h other mine apart. refl)
--- The closing turn, at the last round's moment
-
-abbrev closing_keeps : Keeps
-closing_keeps = tick_keeps (sample 0 ∷ sample 1000 ∷ sample 2000 ∷ []) (tick ∷ [])
-
--- the run as it was above, with the view as the turns made it
-abbrev pub session_run : RunView
-session_run = record run { final = after_turn 3 15 tick_log third_tick.view }
-
-closing_turn : IsTickPromise setting 3 0 2000 true (third_tick.moments 3) three_taken tick_log closing_keeps.samples []
-    closing_keeps.ticks (Did 1)
-closing_turn = record {
-  added = closing_pass;
-  grown = refl;
-  so_far = record { blocks = closing_is.blocks; kept = refl };
-  ticked = refl;
-  posts = λ g known.
-      subst (λ (h : FnId). weights_in h closing_pass ≡ weights_posted h.0 (tick ∷ [])) (only g known) refl;
-  whole = λ e. closing_is;
-  tells = (omega arith, refl);
-}
-
-closes : Closes true (λ n. ⊥) setting third_tick.moments 0 third_tick_holds.0 third_tick.view third_tick.keeps 15 2000
-    tick_log closing_keeps session_run
-closes = record {
-  answer = Did 1;
-  pass = closing_turn;
-  complete = refl;
-  at = (refl, omega arith, refl);
-  view = refl;
-  samples = refl;
-  ticks = refl;
-}
-
-logs_are : (role : ℕ) → role < 4 → session_run.final.logs role ≡ log_of role past
-logs_are zero less = refl
-logs_are (suc zero) less = refl
-logs_are (suc (suc zero)) less = refl
-logs_are (suc (suc (suc zero))) less = refl
-logs_are (suc (suc (suc (suc n)))) less = absurd (omega (arith, less))
-
-closed : IsClosed setting session_run
-closed = record {
-  past = past;
-  history = record { lawful = past_is_lawful; lead = refl; logs = logs_are; counts = refl };
-  left = sym (none_left setting past all_back);
-}
-
-lists : HasLists setting (closing_moments setting third_tick.moments third_tick.view 2000) session_run
-lists = record {
-  records = λ test. omega arith;
-  records_ascend = records_ascend;
-  sent = λ test. omega arith;
-  sent_ascend = sent_ascend;
-  posts = refl;
-  yields = refl;
-  lost = refl;
-}
-
-pub overload_session_accounted : IsAccounted true (λ n. ⊥) is_cost counts (λ g. 0) setting session_run
-overload_session_accounted =
-    done true (λ n. ⊥) counts (λ g. 0) (λ g. 3) is_cost setting third_tick.moments 0 third_tick_holds.0
-    third_tick.view third_tick.keeps 15 2000 tick_log closing_keeps session_run ranges setting_is third_tick_holds.1
-    closes closed lists refl

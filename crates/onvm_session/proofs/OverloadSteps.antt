@@ -1,5 +1,5 @@
--- The steps of the serial run under overload, turn after turn, are lawful, and are those that the first token saw.
-use Rattle.std.proofs.Common.{◌≡◌, ◌≢◌, ℕ, zero, suc, ◌<◌, Bool, true, false, [], ◌∷◌, ◌++◌, refl, sym, ◌∙◌, ap, arith, None}
+-- The steps of the serial run under overload, turn after turn, are lawful.
+use Rattle.std.proofs.Common.{◌≡◌, ◌≢◌, ℕ, zero, suc, Bool, true, false, [], ◌∷◌, ◌++◌, refl, sym, ◌∙◌, ap, arith, None}
 use Rattle.onvm_base.specs.declared.ids.RingId.TheVariants.{Mail}
 use Rattle.onvm_core.specs.declared.layout.Word.TheVariants.{Pool as PoolWord}
 use Rattle.onvm_core.specs.declared.place.Place.{Place}
@@ -10,19 +10,16 @@ use Rattle.onvm_core.specs.declared.step.Step.{Step}
 use Rattle.onvm_core.specs.History.{History, content_of, is_live, place_of}
 use Rattle.onvm_core.specs.Lawful.{Allows, HoldsNothing, IsLawful}
 use Rattle.onvm_core.specs.Layouts.{IsBuffer}
-use Rattle.onvm_core.specs.Logs.{log_of}
 use Rattle.onvm_core.specs.Words.{pool_bits}
 use Rattle.onvm_core.proofs.Crowd.{f}
 use Rattle.onvm_core.proofs.Steps.{◌◂◌, by, enters, finds_full, gives, joins, leaves, looks, pops, posts, splits, takes}
 use Rattle.onvm_session.specs.Turns.{steps_of}
-use Rattle.onvm_session.specs.Views.{IsHistoryOf}
 use Rattle.onvm_session.proofs.ExampleSteps.{finds_empty}
 use Rattle.onvm_session.proofs.OverloadCore.{first_served, second_served, third_served}
 use Rattle.onvm_session.proofs.OverloadPlan.{bit_12, bit_14, bit_15, bit_8, layout}
 use Rattle.onvm_session.proofs.OverloadReceive.{holding, raising, second_entered, staying, turned_back}
 use Rattle.onvm_session.proofs.OverloadSend.{first_moved, second_moved, third_moved}
 use Rattle.onvm_session.proofs.OverloadTick.{closing_pass, taken}
-use Rattle.onvm_session.proofs.OverloadTurns.{final, logs}
 
 -- what a mailed sample asks for
 mails : {before : History} {number : ℕ}
@@ -315,15 +312,3 @@ past_is_lawful =
     ◂ finds_empty refl (omega arith) refl refl
     ◂ splits refl refl (omega arith) refl
     ◂ third_tick_is
-
--- The final view is the history's
-
-logs_are : (role : ℕ) → role < 4 → logs role ≡ log_of role past
-logs_are zero less = refl
-logs_are (suc zero) less = refl
-logs_are (suc (suc zero)) less = refl
-logs_are (suc (suc (suc zero))) less = refl
-logs_are (suc (suc (suc (suc n)))) less = absurd (omega (arith, less))
-
-pub history_is : IsHistoryOf layout final past
-history_is = record { lawful = past_is_lawful; lead = refl; logs = logs_are; counts = refl }
