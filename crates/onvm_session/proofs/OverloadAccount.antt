@@ -1,18 +1,17 @@
 -- The serial run under overload has its account: three frames were sent, one was lost to a full lane, and one was
--- throttled by a mark that a reading of the age had raised. Its tick role makes the closing turn, and the headline's law
--- gives the account.
+-- throttled by a mark that a reading of the age had raised. Its tick role makes the closing turn, and the headline's
+-- law gives the account.
 use Rattle.std.proofs.Common.{◌≡◌, ℕ, zero, suc, ◌<◌, true, inr, List, [], ◌∷◌, refl, sym, subst, arith, Some, None}
 use Rattle.std.specs.Prelude.{slice_get}
 use Rattle.onvm_base.specs.declared.frame.SentFrame.{SentFrame}
 use Rattle.onvm_base.specs.declared.ids.FnId.{FnId}
 use Rattle.onvm_base.specs.declared.ids.FrameId.{FrameId}
 use Rattle.onvm_base.specs.declared.ids.RingId.TheVariants.{Lane}
-use Rattle.onvm_base.specs.declared.outcome.Outcome.TheVariants.{RingFull}
+use Rattle.onvm_base.specs.declared.outcome.Outcome.TheVariants.{RingFull, Sent, Throttled}
 use Rattle.onvm_base.specs.declared.outcome.Record.{Record}
 use Rattle.onvm_core.specs.Logs.{log_of}
 use Rattle.onvm_core.proofs.Crowd.{f}
 use Rattle.onvm_core.proofs.Steps.{◌◂◌}
-use Rattle.load_estimate.specs.declared.sample.Sample.{Sample}
 use Rattle.load_estimate.specs.declared.tick.Share.{Share}
 use Rattle.load_estimate.specs.declared.tick.Tick.{Tick}
 use Rattle.onvm_promises.specs.Lines.{weights_posted}
@@ -28,9 +27,8 @@ use Rattle.onvm_session.specs.Sessions.{Keeps, after_turn}
 use Rattle.onvm_session.proofs.Accounted.{none_left}
 use Rattle.onvm_session.proofs.Done.{done}
 use Rattle.onvm_session.proofs.OverloadCore.{only}
-use Rattle.onvm_session.proofs.OverloadPlan.{e1, e2, e3, e4, ranges, setting, setting_is}
-use Rattle.onvm_session.proofs.OverloadPromises.{sample, sent_as, told}
-use Rattle.onvm_session.proofs.OverloadReceive.{held}
+use Rattle.onvm_session.proofs.OverloadPlan.{e1, e2, e3, e4, e5, ranges, setting, setting_is}
+use Rattle.onvm_session.proofs.OverloadPromises.{three_samples, three_sent}
 use Rattle.onvm_session.proofs.OverloadSession.{third_tick, third_tick_holds, tick_keeps}
 use Rattle.onvm_session.proofs.OverloadSteps.{all_back, past, past_is_lawful}
 use Rattle.onvm_session.proofs.OverloadTick.{closing_is, tick_log, closing_pass, three_taken}
@@ -50,15 +48,17 @@ tick = record {
       ∷ [];
 }
 
-abbrev samples : List Sample
-samples = sample 0 ∷ sample 1000 ∷ sample 2000 ∷ []
-
 abbrev pub run : RunView
 run = record {
-  records = told e1 ∷ told e2 ∷ told e3 ∷ record { frame = e4.frame; outcome = RingFull (Lane f 0) } ∷ held ∷ [];
-  sent = sent_as e1 ∷ sent_as e2 ∷ sent_as e3 ∷ [];
+  records = record { frame = e1.frame; outcome = Sent 0 }
+      ∷ record { frame = e2.frame; outcome = Sent 0 }
+      ∷ record { frame = e3.frame; outcome = Sent 0 }
+      ∷ record { frame = e4.frame; outcome = RingFull (Lane f 0) }
+      ∷ record { frame = e5.frame; outcome = Throttled 0 1 f }
+      ∷ [];
+  sent = three_sent.outcomes.sent;
   posts = record { feeder = 0; number = 1; moment = 1000; bits = 1 } ∷ [];
-  samples = samples;
+  samples = three_samples;
   ticks = tick ∷ [];
   yields = 0;
   lost = 0;
@@ -69,7 +69,7 @@ run = record {
 -- The closing turn, at the last round's moment
 
 abbrev closing_keeps : Keeps
-closing_keeps = tick_keeps samples (tick ∷ [])
+closing_keeps = tick_keeps three_samples (tick ∷ [])
 
 closing_turn : IsTickPromise setting 3 0 2000 true (third_tick.moments 3) three_taken tick_log closing_keeps.samples []
     closing_keeps.ticks (Did 1)

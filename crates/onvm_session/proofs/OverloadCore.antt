@@ -48,7 +48,8 @@ second_service =
 
 abbrev pub second_served : Log
 second_served =
-    mailed ∷ Push (Output f) (Buffer b1 (handled e2 1)) ∷ Pop (Lane f 0) (Buffer b1 (entry_parcel e2)) ∷ Empty (Lane f 1)
+    mailed ∷ Push (Output f) (Buffer b1 (handled e2 1)) ∷ Pop (Lane f 0) (Buffer b1 (entry_parcel e2))
+    ∷ Empty (Lane f 1)
     ∷ Look (Cell (Output f) 1) 0 None
     ∷ Look (Weight f) 0 None
     ∷ []
@@ -61,7 +62,8 @@ third_service =
 
 abbrev pub third_served : Log
 third_served =
-    mailed ∷ Push (Output f) (Buffer b2 (handled e3 2)) ∷ Pop (Lane f 0) (Buffer b2 (entry_parcel e3)) ∷ Empty (Lane f 1)
+    mailed ∷ Push (Output f) (Buffer b2 (handled e3 2)) ∷ Pop (Lane f 0) (Buffer b2 (entry_parcel e3))
+    ∷ Empty (Lane f 1)
     ∷ Look (Cell (Output f) 0) 0 None
     ∷ Look (Weight f) 0 None
     ∷ []
@@ -177,7 +179,8 @@ second_rests = record {
 
 pub second_served_is : IsCorePass setting 2 first_served second_served
 second_served_is = record {
-  served = λ g mine. subst (λ (h : FnId). IsServed setting h first_served second_served) (only g mine.known) second_once;
+  served = λ g mine.
+      subst (λ (h : FnId). IsServed setting h first_served second_served) (only g mine.known) second_once;
   samples = λ g mine. subst (λ (h : FnId). HasOneSample h second_served) (only g mine.known) refl;
   rests = second_rests;
 }

@@ -1,6 +1,6 @@
--- A run under overload, what it is of: five frames of a port, for a function that handles one frame a pass and whose lane
--- takes three. A burst is four, the high mark two, and a reading counts from 1,000 nanoseconds on, a round of a serial
--- run.
+-- What a run under overload is of: five frames of a port, for a function that handles one frame a pass and whose lane
+-- takes three. A burst is four, the high mark two, and a reading counts from 1,000 nanoseconds on, which is a round of
+-- a serial run.
 use Rattle.std.proofs.Common.{◌≡◌, ◌≢◌, ℕ, zero, suc, ◌<◌, ◌≤◌, false, [], ◌∷◌, length, refl, sym, ap, arith, Some, None}
 use Rattle.std.specs.Prelude.{◌==◌, All, IsBitSet, replicate}
 use Rattle.std.proofs.lemmas.Bool.{ne_eqb}
@@ -164,7 +164,8 @@ setting_is = record {
   numbered = numbered;
   ports = all_five (λ (e : Entry). e.frame.port.0 < 1) (omega arith) (omega arith) (omega arith) (omega arith)
       (omega arith);
-  chains = all_five (λ (e : Entry). e.chain.0 < 1) (omega arith) (omega arith) (omega arith) (omega arith) (omega arith);
+  chains = all_five (λ (e : Entry). e.chain.0 < 1) (omega arith) (omega arith) (omega arith) (omega arith)
+      (omega arith);
   few = few;
 }
 

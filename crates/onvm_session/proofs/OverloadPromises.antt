@@ -1,4 +1,4 @@
--- The twelve turns of the run under overload are what passes promise, each with its answer and with what the role keeps.
+-- The twelve turns of the run under overload are what passes promise, each with its answer and what the role keeps.
 use Rattle.std.proofs.Common.{ℕ, false, List, [], ◌∷◌, ◌++◌, refl, subst, arith, None}
 use Rattle.onvm_base.specs.declared.frame.SentFrame.{SentFrame}
 use Rattle.onvm_base.specs.declared.ids.FnId.{FnId}
@@ -118,7 +118,13 @@ handles_third = record {
   first = tt;
   so_far = record {
     rests = third_served_is.rests;
-    timed = (100, refl, refl) ◂ tt ◂ tt ◂ tt ◂ tt ◂ tt ◂ (100, refl, refl) ◂ tt ◂ tt ◂ tt ◂ tt ◂ tt ◂ (100, refl, refl) ◂ tt ◂ tt ◂ tt ◂ tt ◂ tt;
+    timed = (100, refl, refl) ◂ tt ◂ tt ◂ tt ◂ tt ◂ tt ◂ (100, refl, refl) ◂ tt ◂ tt ◂ tt ◂ tt ◂ tt
+        ◂ (100, refl, refl)
+        ◂ tt
+        ◂ tt
+        ◂ tt
+        ◂ tt
+        ◂ tt;
     journals = λ g mine.
         subst (λ (h : FnId). GoesThrough (counts h.0) 0 (journal h core_log) 3) (only g mine.known)
         (1, (refl, refl, refl), (2, (refl, refl, refl), (3, (refl, refl, refl), refl)));
@@ -136,11 +142,26 @@ told e = record { frame = e.frame; outcome = Sent 0 }
 abbrev pub sent_as : Entry → SentFrame
 sent_as e = record { frame = e.frame; stamp = e.stamp; packet = e.packet }
 
-abbrev pub sent_keeps : List Record → List SentFrame → FeederKeeps
-sent_keeps records sent = record { outcomes = record { records = records; sent = sent }; posts = [] }
+abbrev pub one_sent : FeederKeeps
+one_sent = record {
+  outcomes = record { records = told e1 ∷ []; sent = sent_as e1 ∷ [] };
+  posts = [];
+}
+
+abbrev pub two_sent : FeederKeeps
+two_sent = record {
+  outcomes = record { records = told e1 ∷ told e2 ∷ []; sent = sent_as e1 ∷ sent_as e2 ∷ [] };
+  posts = [];
+}
+
+abbrev pub three_sent : FeederKeeps
+three_sent = record {
+  outcomes = record { records = told e1 ∷ told e2 ∷ told e3 ∷ []; sent = sent_as e1 ∷ sent_as e2 ∷ sent_as e3 ∷ [] };
+  posts = [];
+}
 
 pub moves_first : (now : ℕ) (moment : ℕ → ℕ)
-    → IsSendPromise setting 1 now moment [] first_moved (sent_keeps (told e1 ∷ []) (sent_as e1 ∷ [])) (Did 1)
+    → IsSendPromise setting 1 now moment [] first_moved one_sent (Did 1)
 moves_first now moment = record {
   added = first_moved;
   grown = refl;
@@ -150,7 +171,7 @@ moves_first now moment = record {
 }
 
 pub moves_second : (now : ℕ) (moment : ℕ → ℕ)
-    → IsSendPromise setting 1 now moment first_moved two_moved (sent_keeps (told e1 ∷ told e2 ∷ []) (sent_as e1 ∷ sent_as e2 ∷ [])) (Did 1)
+    → IsSendPromise setting 1 now moment first_moved two_moved two_sent (Did 1)
 moves_second now moment = record {
   added = second_moved;
   grown = refl;
@@ -160,7 +181,7 @@ moves_second now moment = record {
 }
 
 pub moves_third : (now : ℕ) (moment : ℕ → ℕ)
-    → IsSendPromise setting 1 now moment two_moved send_log (sent_keeps (told e1 ∷ told e2 ∷ told e3 ∷ []) (sent_as e1 ∷ sent_as e2 ∷ sent_as e3 ∷ [])) (Did 1)
+    → IsSendPromise setting 1 now moment two_moved send_log three_sent (Did 1)
 moves_third now moment = record {
   added = third_moved;
   grown = refl;
@@ -174,8 +195,17 @@ moves_third now moment = record {
 abbrev pub sample : ℕ → Sample
 sample moment = record { function = f; moment = moment; count = 1; time = 100 }
 
+abbrev pub one_sample : List Sample
+one_sample = sample 0 ∷ []
+
+abbrev pub two_samples : List Sample
+two_samples = sample 0 ∷ sample 1000 ∷ []
+
+abbrev pub three_samples : List Sample
+three_samples = sample 0 ∷ sample 1000 ∷ sample 2000 ∷ []
+
 pub takes_first : IsTickPromise setting 3 0 0 false (λ number. 0) [] taken
-    (sample 0 ∷ []) [] [] (Did 1)
+    one_sample [] [] (Did 1)
 takes_first = record {
   added = taken;
   grown = refl;
@@ -187,7 +217,7 @@ takes_first = record {
 }
 
 pub takes_second : IsTickPromise setting 3 0 1000 false (moment_then (λ number. 0) 0 0) taken two_taken
-    (sample 0 ∷ sample 1000 ∷ []) [] [] (Did 1)
+    two_samples [] [] (Did 1)
 takes_second = record {
   added = taken;
   grown = refl;
@@ -198,8 +228,8 @@ takes_second = record {
   tells = (omega arith, refl);
 }
 
-pub takes_third : IsTickPromise setting 3 0 2000 false (moment_then (moment_then (λ number. 0) 0 0) 2 1000) two_taken three_taken
-    (sample 0 ∷ sample 1000 ∷ sample 2000 ∷ []) [] [] (Did 1)
+pub takes_third : IsTickPromise setting 3 0 2000 false (moment_then (moment_then (λ number. 0) 0 0) 2 1000) two_taken
+    three_taken three_samples [] [] (Did 1)
 takes_third = record {
   added = taken;
   grown = refl;

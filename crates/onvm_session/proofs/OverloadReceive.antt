@@ -138,7 +138,8 @@ third_marked : (aged : Ages) → AreMarked setting 0 aged third_entered
 third_marked aged = inl no_bits ◂ inl no_bits ◂ inl no_bits ◂ inl no_bits ◂ inl no_bits ◂ second_marked aged
 
 turned_marked : (aged : Ages) → AreMarked setting 0 aged turned_back
-turned_marked aged = inl no_bits ◂ inl no_bits ◂ inl no_bits ◂ inl no_bits ◂ inl no_bits ◂ inl no_bits ◂ third_marked aged
+turned_marked aged =
+    inl no_bits ◂ inl no_bits ◂ inl no_bits ◂ inl no_bits ◂ inl no_bits ◂ inl no_bits ◂ third_marked aged
 
 first_paced : IsPaced setting 0 first_entered
 first_paced =

@@ -17,8 +17,8 @@ use Rattle.onvm_session.specs.Sessions.{IsRolePass, IsSession, Keeps, OthersKeep
 use Rattle.onvm_session.specs.Starts.{first_view, no_keeps}
 use Rattle.onvm_session.specs.Views.{FinalView, place_in, role_at, turns_in}
 use Rattle.onvm_session.proofs.OverloadCore.{core_log, first_served, only, two_served}
-use Rattle.onvm_session.proofs.OverloadPlan.{e1, e2, e3, layout, ranges, setting}
-use Rattle.onvm_session.proofs.OverloadPromises.{handles_first, handles_second, handles_third, held_keeps, holds_one, moves_first, moves_second, moves_third, receives_four, sample, sent_as, sent_keeps, stays_raised, takes_first, takes_second, takes_third, told, turned_keeps}
+use Rattle.onvm_session.proofs.OverloadPlan.{layout, ranges, setting}
+use Rattle.onvm_session.proofs.OverloadPromises.{handles_first, handles_second, handles_third, held_keeps, holds_one, moves_first, moves_second, moves_third, one_sample, one_sent, receives_four, stays_raised, takes_first, takes_second, takes_third, three_samples, three_sent, turned_keeps, two_samples, two_sent}
 use Rattle.onvm_session.proofs.OverloadReceive.{held_log, receive_log, turned_back}
 use Rattle.onvm_session.proofs.OverloadSend.{first_moved, send_log, two_moved}
 use Rattle.onvm_session.proofs.OverloadTick.{taken, three_taken, two_taken}
@@ -50,6 +50,7 @@ behind was role seen moment after kept state =
       keeps = with_keeps role kept was.keeps;
     }
 
+-- a pass at the round's moment keeps the invariant
 turn : (was : Standing) (role seen moment : ℕ) (after : Log) (kept : Keeps) (state : ℕ → ℕ) (answer : Pass)
     → Holds was → moment_of_round (round_of_turn layout (turns_in was.view)) ≡ moment
     → role ≡ role_at layout (place_in layout was.view.lead)
@@ -96,81 +97,93 @@ first_receive = behind at_start 0 8 0 turned_back (feeder_keeps turned_keeps) (�
 
 first_receive_holds : Holds first_receive
 first_receive_holds =
-    turn at_start 0 8 0 turned_back (feeder_keeps turned_keeps) (λ g. 0) (Did 4) starts refl refl receives_four refl (λ h other mine apart. refl)
+    turn at_start 0 8 0 turned_back (feeder_keeps turned_keeps) (λ g. 0) (Did 4) starts refl refl receives_four refl
+    (λ h other mine apart. refl)
 
 abbrev pub first_core : Standing
 first_core = behind first_receive 2 8 0 first_served no_keeps (λ g. 1)
 
 first_core_holds : Holds first_core
 first_core_holds =
-    turn first_receive 2 8 0 first_served no_keeps (λ g. 1) (Did 1) first_receive_holds refl refl (None, handles_first) refl (others_keep (λ g. 0) (λ g. 1))
+    turn first_receive 2 8 0 first_served no_keeps (λ g. 1) (Did 1) first_receive_holds refl refl
+    (None, handles_first) refl (others_keep (λ g. 0) (λ g. 1))
 
 abbrev pub first_send : Standing
-first_send = behind first_core 1 9 0 first_moved (feeder_keeps (sent_keeps (told e1 ∷ []) (sent_as e1 ∷ []))) (λ g. 1)
+first_send = behind first_core 1 9 0 first_moved (feeder_keeps one_sent) (λ g. 1)
 
 first_send_holds : Holds first_send
 first_send_holds =
-    turn first_core 1 9 0 first_moved (feeder_keeps (sent_keeps (told e1 ∷ []) (sent_as e1 ∷ []))) (λ g. 1) (Did 1) first_core_holds refl refl (moves_first 0 _) refl (λ h other mine apart. refl)
+    turn first_core 1 9 0 first_moved (feeder_keeps one_sent) (λ g. 1) (Did 1) first_core_holds refl refl
+    (moves_first 0 _) refl (λ h other mine apart. refl)
 
 abbrev pub first_tick : Standing
-first_tick = behind first_send 3 9 0 taken (tick_keeps (sample 0 ∷ []) []) (λ g. 1)
+first_tick = behind first_send 3 9 0 taken (tick_keeps one_sample []) (λ g. 1)
 
 first_tick_holds : Holds first_tick
 first_tick_holds =
-    turn first_send 3 9 0 taken (tick_keeps (sample 0 ∷ []) []) (λ g. 1) (Did 1) first_send_holds refl refl takes_first refl (λ h other mine apart. refl)
+    turn first_send 3 9 0 taken (tick_keeps one_sample []) (λ g. 1) (Did 1) first_send_holds refl refl takes_first
+    refl (λ h other mine apart. refl)
 
 abbrev pub second_receive : Standing
 second_receive = behind first_tick 0 9 1000 held_log (feeder_keeps held_keeps) (λ g. 1)
 
 second_receive_holds : Holds second_receive
 second_receive_holds =
-    turn first_tick 0 9 1000 held_log (feeder_keeps held_keeps) (λ g. 1) (Did 1) first_tick_holds refl refl holds_one refl (λ h other mine apart. refl)
+    turn first_tick 0 9 1000 held_log (feeder_keeps held_keeps) (λ g. 1) (Did 1) first_tick_holds refl refl holds_one
+    refl (λ h other mine apart. refl)
 
 abbrev pub second_core : Standing
 second_core = behind second_receive 2 9 1000 two_served no_keeps (λ g. 2)
 
 second_core_holds : Holds second_core
 second_core_holds =
-    turn second_receive 2 9 1000 two_served no_keeps (λ g. 2) (Did 1) second_receive_holds refl refl (None, handles_second) refl (others_keep (λ g. 1) (λ g. 2))
+    turn second_receive 2 9 1000 two_served no_keeps (λ g. 2) (Did 1) second_receive_holds refl refl
+    (None, handles_second) refl (others_keep (λ g. 1) (λ g. 2))
 
 abbrev pub second_send : Standing
-second_send = behind second_core 1 11 1000 two_moved (feeder_keeps (sent_keeps (told e1 ∷ told e2 ∷ []) (sent_as e1 ∷ sent_as e2 ∷ []))) (λ g. 2)
+second_send = behind second_core 1 11 1000 two_moved (feeder_keeps two_sent) (λ g. 2)
 
 second_send_holds : Holds second_send
 second_send_holds =
-    turn second_core 1 11 1000 two_moved (feeder_keeps (sent_keeps (told e1 ∷ told e2 ∷ []) (sent_as e1 ∷ sent_as e2 ∷ []))) (λ g. 2) (Did 1) second_core_holds refl refl (moves_second 1000 _) refl (λ h other mine apart. refl)
+    turn second_core 1 11 1000 two_moved (feeder_keeps two_sent) (λ g. 2) (Did 1) second_core_holds refl refl
+    (moves_second 1000 _) refl (λ h other mine apart. refl)
 
 abbrev pub second_tick : Standing
-second_tick = behind second_send 3 11 1000 two_taken (tick_keeps (sample 0 ∷ sample 1000 ∷ []) []) (λ g. 2)
+second_tick = behind second_send 3 11 1000 two_taken (tick_keeps two_samples []) (λ g. 2)
 
 second_tick_holds : Holds second_tick
 second_tick_holds =
-    turn second_send 3 11 1000 two_taken (tick_keeps (sample 0 ∷ sample 1000 ∷ []) []) (λ g. 2) (Did 1) second_send_holds refl refl takes_second refl (λ h other mine apart. refl)
+    turn second_send 3 11 1000 two_taken (tick_keeps two_samples []) (λ g. 2) (Did 1) second_send_holds refl refl
+    takes_second refl (λ h other mine apart. refl)
 
 abbrev pub third_receive : Standing
 third_receive = behind second_tick 0 11 2000 receive_log (feeder_keeps held_keeps) (λ g. 2)
 
 third_receive_holds : Holds third_receive
 third_receive_holds =
-    turn second_tick 0 11 2000 receive_log (feeder_keeps held_keeps) (λ g. 2) Idle second_tick_holds refl refl stays_raised refl (λ h other mine apart. refl)
+    turn second_tick 0 11 2000 receive_log (feeder_keeps held_keeps) (λ g. 2) Idle second_tick_holds refl refl
+    stays_raised refl (λ h other mine apart. refl)
 
 abbrev pub third_core : Standing
 third_core = behind third_receive 2 11 2000 core_log no_keeps (λ g. 3)
 
 third_core_holds : Holds third_core
 third_core_holds =
-    turn third_receive 2 11 2000 core_log no_keeps (λ g. 3) (Did 1) third_receive_holds refl refl (None, handles_third) refl (others_keep (λ g. 2) (λ g. 3))
+    turn third_receive 2 11 2000 core_log no_keeps (λ g. 3) (Did 1) third_receive_holds refl refl
+    (None, handles_third) refl (others_keep (λ g. 2) (λ g. 3))
 
 abbrev pub third_send : Standing
-third_send = behind third_core 1 15 2000 send_log (feeder_keeps (sent_keeps (told e1 ∷ told e2 ∷ told e3 ∷ []) (sent_as e1 ∷ sent_as e2 ∷ sent_as e3 ∷ []))) (λ g. 3)
+third_send = behind third_core 1 15 2000 send_log (feeder_keeps three_sent) (λ g. 3)
 
 third_send_holds : Holds third_send
 third_send_holds =
-    turn third_core 1 15 2000 send_log (feeder_keeps (sent_keeps (told e1 ∷ told e2 ∷ told e3 ∷ []) (sent_as e1 ∷ sent_as e2 ∷ sent_as e3 ∷ []))) (λ g. 3) (Did 1) third_core_holds refl refl (moves_third 2000 _) refl (λ h other mine apart. refl)
+    turn third_core 1 15 2000 send_log (feeder_keeps three_sent) (λ g. 3) (Did 1) third_core_holds refl refl
+    (moves_third 2000 _) refl (λ h other mine apart. refl)
 
 abbrev pub third_tick : Standing
-third_tick = behind third_send 3 15 2000 three_taken (tick_keeps (sample 0 ∷ sample 1000 ∷ sample 2000 ∷ []) []) (λ g. 3)
+third_tick = behind third_send 3 15 2000 three_taken (tick_keeps three_samples []) (λ g. 3)
 
 pub third_tick_holds : Holds third_tick
 third_tick_holds =
-    turn third_send 3 15 2000 three_taken (tick_keeps (sample 0 ∷ sample 1000 ∷ sample 2000 ∷ []) []) (λ g. 3) (Did 1) third_send_holds refl refl takes_third refl (λ h other mine apart. refl)
+    turn third_send 3 15 2000 three_taken (tick_keeps three_samples []) (λ g. 3) (Did 1) third_send_holds refl refl
+    takes_third refl (λ h other mine apart. refl)
