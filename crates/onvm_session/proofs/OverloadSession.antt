@@ -1,5 +1,5 @@
 -- The run under overload is a session's: from the start each of its twelve turns keeps the loop's invariant.
-use Rattle.std.proofs.Common.{◌≡◌, ℕ, true, false, List, [], ◌∷◌, length, refl, sym, subst, None}
+use Rattle.std.proofs.Common.{◌≡◌, ℕ, true, false, List, [], length, refl, sym, subst, None}
 use Rattle.onvm_base.specs.declared.ids.FnId.{FnId}
 use Rattle.onvm_core.specs.Blocks.{kind_of}
 use Rattle.onvm_core.specs.Layouts.{core_role}
