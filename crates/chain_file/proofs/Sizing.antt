@@ -2,10 +2,9 @@
 use Rattle.std.proofs.Common.{◌≡◌, ℕ, ◌/◌, ◌&&◌, nat_le, nat_lt, max, [], ◌∷◌, Option, None, codes, arith}
 use Rattle.serde_json.specs.Data.{Data}
 use Rattle.onvm_base.specs.declared.limits.TheConstants.{MAX_AGE, MAX_BUFFERS, MAX_BURST, MAX_CORES, MAX_PORTS, MAX_RING, MAX_TICK, MAX_TRANSMIT_ROLES, MAX_WINDOW, MIN_RING, MIN_TICK}
-use Rattle.onvm_base.specs.Plan.{IsFrom, Sizes as PlanSizes, AreSizes}
+use Rattle.onvm_base.specs.Plan.{IsFrom, AreSizes}
 use Rattle.chain_file.specs.declared.fault.Cause.{Cause}
 use Rattle.chain_file.specs.declared.fault.Cause.TheVariants.{Marks}
-use Rattle.chain_file.specs.declared.top.Sizes.{Sizes}
 use Rattle.chain_file.specs.Causes.{unless, first_of}
 use Rattle.chain_file.specs.Values.{number_or, only}
 use Rattle.chain_file.specs.File.{plan_sizes}

@@ -1,11 +1,11 @@
 -- No written plan has too many brackets for a chain file.
-use Rattle.std.proofs.Common.{◌≡◌, ℕ, zero, suc, ◌+◌, ◌/◌, ◌%◌, ◌==◌, ◌<◌, ◌≤◌, Bool, true, false, nat_lt, if◌then◌else◌, List, [], ◌∷◌, ◌++◌, cond, length, map, codes, decimal, Option, Some, None, option_map, All, IfSome, refl, ap, ◌∙◌, arith}
+use Rattle.std.proofs.Common.{◌≡◌, ℕ, zero, suc, ◌+◌, ◌/◌, ◌%◌, ◌==◌, ◌≤◌, Bool, true, false, if◌then◌else◌, List, [], ◌∷◌, ◌++◌, cond, length, map, codes, decimal, Option, Some, None, option_map, All, IfSome, refl, ap, ◌∙◌, arith}
 use Rattle.std.specs.List.{list_all}
 use Rattle.std.specs.Fmt.{digit_glyph, digits, digits_onto}
 use Rattle.std.proofs.lemmas.Bool.{le-leb}
 use Rattle.std.proofs.lemmas.List.Sums.{sum_by-append, sum_by-cons}
 use Rattle.json.specs.Print.{escape, quoted}
-use Rattle.serde_json.specs.Data.{Num, unsigned, negative, float, Data, null, boolean, number, string, array, object, Items, no_items, item, Members, no_members, member}
+use Rattle.serde_json.specs.Data.{unsigned, negative, float, Data, null, boolean, number, string, array, object, Items, no_items, item, Members, no_members, member}
 use Rattle.serde_json.specs.View.{items_of}
 use Rattle.serde_json.specs.Written.{comma_if, compact_text, items_text, members_text}
 use Rattle.onvm_base.specs.declared.limits.TheConstants.{MAX_CHAIN_FILE_BYTES, MAX_CHAINS, MAX_CHAIN_STEPS, MAX_FUNCTIONS, MAX_ROUTES, MAX_RULES, MAX_TESTS}
@@ -24,7 +24,7 @@ use Rattle.onvm_base.specs.Plan.{IsChainPlan, IsFunction, IsKind}
 use Rattle.chain_file.specs.declared.file.TheConstants.{MAX_CHAIN_FILE_BRACKETS}
 use Rattle.chain_file.specs.File.{is_opening, is_within, openings}
 use Rattle.chain_file.specs.Widths.{PlanFits}
-use Rattle.chain_file.specs.Written.{chain, entry, form, function, list, member_if, members_of, natural, one_step, own_rows, prefix, range, rule, step_row, tests}
+use Rattle.chain_file.specs.Written.{chain, entry, form, function, list, member_if, members_of, natural, one_step, own_rows, prefix, range, rule, tests}
 use Rattle.chain_file.proofs.Compact.{IsPlain, IsText, ItemsArePlain, MembersArePlain}
 use Rattle.chain_file.proofs.KeptNames.{both_true}
 use Rattle.chain_file.proofs.Spelled.{is_letter}

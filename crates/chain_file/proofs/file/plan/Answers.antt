@@ -137,11 +137,11 @@ plan_of-requires g c =
     let rules : RulesAreRight captures guests d = subst (λ ks. (k : ℕ) → rule_cause_at ks (under (codes "rules") d) k ≡ None) cs c.in-Ok-rules.ensures.right in
     let ks = c.as_slice-3.ensures ∙ made in
     kept_by captures guests d c.top-top.result.value c.in-Ok.functions c.in-Ok-chains.chains c.in-Ok-rules.rules
-          c.in-Ok-default.default
-          (ap (λ t. t.value) e)
-          (c.in-Ok.ensures.all ∙ same_functions captures guests d c.top-top.result e)
-          made
-          (c.in-Ok-rules.ensures.all ∙ ap (λ cs. rules_of cs (under (codes "rules") d)) cs)
-          (c.in-Ok-default.ensures.value ∙ ap (λ cs. (chain_at cs (codes "default") d).value) ks)
-          top functions chains rules
-          (ap (λ cs. (chain_at cs (codes "default") d).cause) (sym ks) ∙ c.in-Ok-default.ensures.right)
+    c.in-Ok-default.default
+    (ap (λ t. t.value) e)
+    (c.in-Ok.ensures.all ∙ same_functions captures guests d c.top-top.result e)
+    made
+    (c.in-Ok-rules.ensures.all ∙ ap (λ cs. rules_of cs (under (codes "rules") d)) cs)
+    (c.in-Ok-default.ensures.value ∙ ap (λ cs. (chain_at cs (codes "default") d).value) ks)
+    top functions chains rules
+    (ap (λ cs. (chain_at cs (codes "default") d).cause) (sym ks) ∙ c.in-Ok-default.ensures.right)
