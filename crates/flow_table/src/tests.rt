@@ -164,11 +164,7 @@ fn ask_for_all(rt: &impl Abort, table: &mut FlowTable, plan: &Plan)
     ensures { table.new ≡ table.old }
 {
     for source in 0..=MAX_FLOWS as u16 {
-        let expected = if source <= 511 {
-            ChainId(1)
-        } else {
-            ChainId(0)
-        };
+        let expected = if source <= 511 { ChainId(1) } else { ChainId(0) };
         let found = table.chain(plan, &udp(None, Some((source, 9))));
         assert_eq!(rt; found, expected);
     }
@@ -184,10 +180,18 @@ fn flows_that_were_pushed_out_keep_their_chains(rt: HostRuntime) -> Result<(), F
     Ok(())
 }
 
+fn may_be_handed_over<T: Send>(_value: &T) {}
+
+// A table goes to the thread of its receive role.
+fn hand_over(table: &FlowTable) {
+    may_be_handed_over(table);
+}
+
 #[test]
 fn without_rules_each_frame_takes_the_default_chain(rt: HostRuntime) -> Result<(), Fail> {
     let plan = plan(rt.alloc(), ListOf::make(rt.alloc()), ChainId(1))?;
     let mut table = FlowTable::make(rt.alloc(), &plan, PortId(0))?;
     assert_eq!(rt; table.chain(&plan, &udp(Some(5), Some((0, 0)))), ChainId(1));
+    hand_over(&table);
     Ok(())
 }
