@@ -1,6 +1,7 @@
 -- The plan of the tests keeps the rules of a plan.
-use Rattle.std.proofs.Common.{◌≡◌, ◌∙◌, sym, ap, subst, refl, ℕ, zero, suc, ◌+◌, ◌<◌, ◌≤◌, Bool, true, false, Some, List, [], ◌∷◌, length, All, arith}
+use Rattle.std.proofs.Common.{◌≡◌, ◌∙◌, sym, ap, subst, refl, ℕ, zero, suc, ◌+◌, ◌-◌, ◌<◌, ◌≤◌, Bool, true, false, Some, List, [], ◌∷◌, ◌++◌, length, All, arith}
 use Rattle.std.specs.List.{slice_get}
+use Rattle.std.specs.Prelude.{map, replicate, slice_index, slice_index_or}
 use Rattle.std.proofs.lemmas.Bool.{true≢false}
 use Rattle.std.proofs.lemmas.Option.{none-some, same_Some, slice_get_within}
 use Rattle.onvm_base.specs.Plan.{AreDifferent, AreSizes, IsChainPlan, IsFunction, IsKind, IsName, IsPlan, Sizes, is_name_character}
@@ -9,7 +10,13 @@ use Rattle.onvm_base.specs.declared.rules.RulePlan.{RulePlan}
 use Rattle.onvm_base.specs.declared.function.FunctionPlan.{FunctionPlan}
 use Rattle.onvm_base.specs.declared.function.Kind.{Kind}
 use Rattle.onvm_base.specs.declared.function.Kind.TheVariants as kind
-use Rattle.tick_pass.specs.Examples.{function_of, two_functions}
+use Rattle.onvm_base.specs.declared.limits.TheConstants.{MAX_FUNCTIONS}
+use Rattle.onvm_base.specs.declared.plan.Plan.{Plan}
+use Rattle.onvm_core.specs.declared.layout.Layout.{Layout}
+use Rattle.onvm_core.specs.Layouts.{IsLayoutOf, producer}
+use Rattle.onvm_core.specs.Logs.{Log}
+use Rattle.desc_ring.specs.Arrays.{mail_of}
+use Rattle.tick_pass.specs.Examples.{IsSmall, function_of, two_functions}
 
 abbrev is_forward : Kind → Bool
 is_forward kind.Forward = true
@@ -146,3 +153,27 @@ is_plan functions chains rules are one right none =
       rules_are = λ k d lt. absurd (omega arith);
       default_is = omega (arith, one);
     }))
+
+-- The board of the tests
+
+both_on_core_0 : (f : ℕ) → f < 2
+    → slice_index (map (λ g. g.core) two_functions ++ replicate (MAX_FUNCTIONS - length two_functions) 0) f ≡ 0
+both_on_core_0 zero less = refl
+both_on_core_0 (suc zero) less = refl
+both_on_core_0 (suc (suc f)) less = absurd (omega (arith, less))
+
+-- its core is role 2
+pub core_is : (plan : Plan) (layout : Layout) → IsSmall plan → IsLayoutOf plan layout → (f : ℕ) → f < 2
+    → producer layout (mail_of f) ≡ 2
+core_is plan layout small of f less =
+    let core : slice_index layout.core_of f ≡ 0 =
+    ap (λ cores. slice_index cores f) (of.core_of
+    ∙ ap (λ (fs : List FunctionPlan). map (λ g. g.core) fs ++ replicate (MAX_FUNCTIONS - length fs) 0) small.functions)
+    ∙ both_on_core_0 f less in
+    omega (arith, core, of.ports, small.ports, of.transmit, small.transmit)
+
+-- a new board's first token has kept no log
+pub none_kept : (n i : ℕ) → ◌≡◌ {A = Log} (slice_index_or (replicate n []) i []) []
+none_kept zero i = refl
+none_kept (suc n) zero = refl
+none_kept (suc n) (suc i) = none_kept n i

@@ -1,8 +1,8 @@
 //! Ticks over a small board, worked out by hand.
-ghost use Rattle.std.specs.Prelude.{◌≡◌, ◌<◌, ◌≤◌, ◌×◌, All, Bool, IfOk, false, length};
+ghost use Rattle.std.specs.Prelude.{◌≡◌, ◌<◌, ◌≤◌, All, IfOk, length};
 ghost use Rattle.onvm_base.specs.Plan.{IsChainPlan};
 ghost use Rattle.tick_pass.specs.Examples.{IsDesk, IsSmall, function_of, two_functions};
-ghost use Rattle.tick_pass.specs.Roles.{IsTickRole, latest_of};
+ghost use Rattle.tick_pass.specs.Roles.{latest_of};
 
 use crate::{TickKept, TickRole, TickRoom};
 use desc_ring::{Mail, mail_ends};
