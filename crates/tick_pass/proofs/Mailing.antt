@@ -1,7 +1,6 @@
 -- A core's ends of mail rings, when it mails a sample.
 use Rattle.std.proofs.Common.{◌≡◌, ℕ, ◌<◌, List, sym, ◌∙◌, ap}
 use Rattle.std.specs.Prelude.{slice_set}
-use Rattle.onvm_base.specs.declared.ids.RingId.{RingId}
 use Rattle.onvm_core.specs.Layouts.{producer, same_ring}
 use Rattle.onvm_board.specs.Tokens.{BoardView, TokenView}
 use Rattle.desc_ring.specs.declared.mail.Mail.{Mail}

@@ -1,5 +1,5 @@
 -- Samples that are taken function by function stand in the order of their functions.
-use Rattle.std.proofs.Common.{◌≡◌, ℕ, ◌+◌, ◌<◌, ◌≤◌, List, [], ◌∷◌, ◌++◌, subst, sym, arith}
+use Rattle.std.proofs.Common.{◌≡◌, ℕ, ◌<◌, ◌≤◌, List, [], ◌∷◌, ◌++◌, subst, sym, arith}
 use Rattle.onvm_base.specs.declared.ids.FnId.{FnId}
 use Rattle.onvm_core.specs.declared.step.Act.{Act}
 use Rattle.onvm_core.specs.Logs.{Log}

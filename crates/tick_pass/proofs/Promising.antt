@@ -1,5 +1,5 @@
 -- What a pass of the tick role promises, from the samples that it took and the weights that it posted.
-use Rattle.std.proofs.Common.{◌≡◌, ℕ, zero, suc, ◌+◌, ◌-◌, ◌<◌, ◌≤◌, inl, inr, Bool, true, false, List, [], ◌∷◌, ◌++◌, length, Some, None, Option, refl, sym, ◌∙◌, ap, subst, arith, append_assoc, append-nil, length-append}
+use Rattle.std.proofs.Common.{◌≡◌, ℕ, zero, suc, ◌+◌, ◌<◌, ◌≤◌, Bool, true, false, List, [], ◌∷◌, ◌++◌, length, Some, None, Option, refl, sym, ◌∙◌, ap, subst, arith, append_assoc, append-nil}
 use Rattle.std.specs.Prelude.{◌==◌, ◌≢◌, ◌||◌, slice_get, nat_lt, if◌then◌else◌}
 use Rattle.std.proofs.lemmas.Bool.{eq-eqb, le-ltb, ne_eqb}
 use Rattle.onvm_base.specs.declared.function.FunctionPlan.{FunctionPlan}
@@ -33,7 +33,7 @@ use Rattle.onvm_promises.specs.Answers.{Tells, is_complete}
 use Rattle.onvm_promises.specs.Follows.{TicksOn}
 use Rattle.onvm_promises.specs.Kept.{kept_at, kept_now, moment_then, samples_by}
 use Rattle.onvm_promises.specs.Lines.{lines_from, lines_of, share_at, share_in, weight_posted, weights_posted}
-use Rattle.onvm_promises.specs.Passes.{IsDrained, IsTickPass, is_pop_of, ran_dry}
+use Rattle.onvm_promises.specs.Passes.{IsDrained, is_pop_of, ran_dry}
 use Rattle.onvm_promises.specs.Roles.{IsTickPromise, IsTickerSoFar, setting_of, ticks_of_pass}
 use Rattle.onvm_promises.specs.Ticks.{is_due, new_ticks, tick_at, weight_posts, weights_in}
 use Rattle.onvm_promises.proofs.Following.{ticks_append, ticks_follow}

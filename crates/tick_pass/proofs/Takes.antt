@@ -1,6 +1,6 @@
 -- Samples that are taken, one after the other.
-use Rattle.std.proofs.Common.{◌≡◌, ℕ, zero, suc, ◌+◌, ◌-◌, ◌<◌, ◌≤◌, inl, inr, Bool, true, false, List, [], ◌∷◌, ◌++◌, length, refl, sym, ◌∙◌, ap, subst, arith, append_assoc, append-nil, length-append, nat_lt}
-use Rattle.std.specs.Prelude.{◌==◌, ◌≢◌, if◌then◌else◌}
+use Rattle.std.proofs.Common.{◌≡◌, ℕ, ◌+◌, ◌<◌, ◌≤◌, inl, inr, Bool, true, false, List, [], ◌∷◌, ◌++◌, length, refl, sym, ◌∙◌, ap, subst, arith, append_assoc, append-nil, length-append, nat_lt}
+use Rattle.std.specs.Prelude.{◌==◌, ◌≢◌}
 use Rattle.std.proofs.lemmas.Bool.{eq-eqb, lt-ltb, ne_eqb}
 use Rattle.std.proofs.lemmas.Bool.Decides.{eqb_tells}
 use Rattle.onvm_base.specs.declared.ids.FnId.{FnId}
@@ -22,7 +22,7 @@ use Rattle.load_estimate.specs.declared.sample.Sample.{Sample}
 use Rattle.onvm_promises.specs.Follows.{TicksOn}
 use Rattle.onvm_promises.specs.Kept.{kept_now, samples_by}
 use Rattle.onvm_promises.specs.Lines.{samples_of}
-use Rattle.onvm_promises.specs.Passes.{IsDrained, dry_after, is_pop_of, ran_dry}
+use Rattle.onvm_promises.specs.Passes.{dry_after, is_pop_of, ran_dry}
 use Rattle.onvm_promises.specs.Ticks.{weights_in, weight_posts}
 use Rattle.onvm_promises.proofs.Keeping.{kept_append}
 use Rattle.onvm_promises.proofs.Moving.{dry_more}

@@ -1,15 +1,11 @@
 -- The lines of a tick, one after the other, and what they post.
-use Rattle.std.proofs.Common.{◌≡◌, ℕ, zero, suc, ◌+◌, ◌-◌, ◌<◌, ◌≤◌, inl, inr, Bool, true, false, List, [], ◌∷◌, ◌++◌, length, drop, get_or, Some, None, Option, refl, sym, ◌∙◌, ap, subst, arith, append_assoc, append-nil, length-append, add-one}
-use Rattle.std.specs.Prelude.{◌==◌, ◌≢◌, slice_get, if◌then◌else◌}
-use Rattle.std.proofs.lemmas.Bool.Decides.{eqb_tells}
+use Rattle.std.proofs.Common.{◌≡◌, ℕ, zero, suc, ◌+◌, ◌-◌, ◌<◌, List, [], ◌∷◌, ◌++◌, length, drop, get_or, Some, None, Option, refl, sym, ◌∙◌, ap, arith, append_assoc, append-nil, length-append, add-one}
+use Rattle.std.specs.Prelude.{slice_get}
 use Rattle.std.proofs.lemmas.Option.{get_or_from_slice_get, none-some, same_Some, slice_get_within, slice_get-get_or}
 use Rattle.std.proofs.Math.Seq.{drop-cons}
 use Rattle.onvm_base.specs.declared.function.FunctionPlan.{FunctionPlan}
-use Rattle.onvm_base.specs.declared.ids.FnId.{FnId}
 use Rattle.onvm_base.specs.declared.plan.Plan.{Plan}
-use Rattle.onvm_core.specs.declared.layout.Word.TheVariants.{Weight}
-use Rattle.onvm_core.specs.declared.step.Act.TheVariants.{Post}
-use Rattle.onvm_core.specs.Logs.{Log, Setting}
+use Rattle.onvm_core.specs.Logs.{Log}
 use Rattle.onvm_core.proofs.Lists.{get_last}
 use Rattle.onvm_board.specs.Tokens.{TokenView, grown}
 use Rattle.onvm_board.proofs.Stretches.{grown_twice}
@@ -17,14 +13,11 @@ use Rattle.load_estimate.specs.declared.sample.Sample.{Sample}
 use Rattle.load_estimate.specs.declared.tick.Share.{Share}
 use Rattle.load_estimate.specs.declared.tick.Tick.{Tick}
 use Rattle.load_estimate.specs.declared.tick.TickLine.{TickLine}
-use Rattle.load_estimate.specs.Windows.{WindowState, arrivals_of, empty_window, median_of}
+use Rattle.load_estimate.specs.Windows.{WindowState}
 use Rattle.cpu_shares.specs.declared.load.Load.{Load}
 use Rattle.cpu_shares.specs.Shares.{load_in}
-use Rattle.onvm_promises.specs.Follows.{TicksOn}
-use Rattle.onvm_promises.specs.Kept.{kept_now, samples_by}
-use Rattle.onvm_promises.specs.Lines.{function_share, function_window, line_of, lines_from, lines_of, share_at, share_in, weight_after, weight_or, weight_posted, weights_posted}
-use Rattle.onvm_promises.specs.Ticks.{last_moment, weight_posts, weights_in}
-use Rattle.tick_pass.specs.Roles.{AreInForce, LastInForce}
+use Rattle.onvm_promises.specs.Lines.{function_share, function_window, line_of, lines_from, weight_after, weight_or}
+use Rattle.onvm_promises.specs.Ticks.{last_moment}
 use Rattle.tick_pass.specs.Telling.{AreCurrent, load_at, post_of, posts_from}
 use Rattle.tick_pass.proofs.Residing.{number}
 

@@ -1,6 +1,6 @@
 -- The windows of all functions: new ones, aged ones, and one that took a sample.
-use Rattle.std.proofs.Common.{◌≡◌, ℕ, zero, suc, ◌+◌, ◌<◌, ◌≤◌, inl, inr, Bool, List, [], ◌∷◌, ◌++◌, length, get_or, refl, sym, ◌∙◌, ap, subst, arith, add-one, All, append_assoc, append-nil, take, drop}
-use Rattle.std.specs.Prelude.{◌==◌, ◌≢◌, if◌then◌else◌, map, slice_set, slice_index_or}
+use Rattle.std.proofs.Common.{◌≡◌, ℕ, zero, suc, ◌<◌, ◌≤◌, inl, inr, List, [], ◌∷◌, ◌++◌, length, get_or, refl, sym, ◌∙◌, ap, subst, arith, All, take, drop}
+use Rattle.std.specs.Prelude.{◌≢◌, map, slice_set}
 use Rattle.std.proofs.lemmas.Bool.Decides.{eqb_tells}
 use Rattle.std.proofs.lemmas.List.{length-set, length-map, get_or-set_other}
 use Rattle.std.proofs.lemmas.List.Elements.{All-nil, All-push}
@@ -13,8 +13,7 @@ use Rattle.cpu_shares.specs.Shares.{IsLoad, IsMailed, load_in}
 use Rattle.cpu_shares.proofs.Windows.{IsLoad-window_of}
 use Rattle.onvm_promises.specs.Lines.{function_window, samples_of}
 use Rattle.tick_pass.specs.Roles.{AreWindows, HasWindow, IsWindowAt}
-use Rattle.tick_pass.specs.Telling.{AreCurrent, AreLoaded, load_at}
-use Rattle.tick_pass.proofs.Residing.{number}
+use Rattle.tick_pass.specs.Telling.{AreCurrent, AreLoaded}
 
 -- A list of which so many first items were changed
 

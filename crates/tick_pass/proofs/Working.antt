@@ -1,16 +1,15 @@
 -- The tick role in a pass and behind it.
-use Rattle.std.proofs.Common.{◌≡◌, ℕ, zero, suc, ◌+◌, ◌-◌, ◌<◌, ◌≤◌, Bool, true, false, List, [], ◌∷◌, ◌++◌, length, Some, None, refl, sym, ◌∙◌, ap, subst, arith, append-nil, length-append, Global, Vec, vec_capacity}
-use Rattle.std.specs.Prelude.{◌≢◌, ◌&&◌, ◌||◌, ◌%◌, min, nat_le, nat_lt, slice_get, slice_set, if◌then◌else◌}
+use Rattle.std.proofs.Common.{◌≡◌, ℕ, zero, suc, ◌+◌, ◌-◌, ◌<◌, ◌≤◌, Bool, true, false, List, [], ◌∷◌, ◌++◌, length, Some, refl, sym, ◌∙◌, ap, subst, arith, append-nil, length-append, Global, Vec, vec_capacity}
+use Rattle.std.specs.Prelude.{◌≢◌, ◌&&◌, ◌||◌, ◌%◌, min, nat_le, nat_lt, slice_get, slice_set}
 use Rattle.std.proofs.lemmas.Bool.{and_parts, ltb-true, true≢false}
-use Rattle.std.proofs.lemmas.Option.{none-some, same_Some, slice_get_within}
+use Rattle.std.proofs.lemmas.Option.{none-some, same_Some}
 use Rattle.onvm_base.specs.declared.function.FunctionPlan.{FunctionPlan}
 use Rattle.onvm_base.specs.declared.ids.FnId.{FnId}
 use Rattle.onvm_base.specs.declared.ids.RingId.TheVariants.{Mail as MailRing}
 use Rattle.onvm_base.specs.declared.plan.Plan.{Plan}
-use Rattle.onvm_core.specs.Layouts.{IsLayoutOf, tick_role}
+use Rattle.onvm_core.specs.Layouts.{IsLayoutOf}
 use Rattle.onvm_core.specs.Logs.{Log}
 use Rattle.onvm_core.specs.Potential.{popped_in}
-use Rattle.onvm_board.specs.Rule.{Hand}
 use Rattle.onvm_board.specs.Tokens.{BoardView, TokenView, grown}
 use Rattle.desc_ring.specs.declared.mail.Mail.{Mail}
 use Rattle.desc_ring.specs.Arrays.{AreMailHeads, AreNew, IsMailHeadAt, mail_of, new_mail}
@@ -22,12 +21,12 @@ use Rattle.load_estimate.specs.declared.tick.Tick.{Tick}
 use Rattle.load_estimate.specs.declared.tick.TickLine.{TickLine}
 use Rattle.load_estimate.specs.Windows.{WindowState}
 use Rattle.onvm_promises.specs.Kept.{kept_now, samples_by}
-use Rattle.onvm_promises.specs.Lines.{function_share, line_of, lines_from, lines_of, samples_of, share_at, share_in, weight_after, weight_or}
+use Rattle.onvm_promises.specs.Lines.{line_of, lines_from, lines_of, samples_of, share_at, share_in, weight_after, weight_or}
 use Rattle.onvm_promises.specs.Ticks.{NeverFall, is_due, last_moment, last_number, tick_at}
 use Rattle.onvm_promises.proofs.Ticking.{AllAt, taken_now}
 use Rattle.tick_pass.specs.declared.role.TickRole.{TickRole}
-use Rattle.tick_pass.specs.Roles.{AreInForce, AreMailsOf, AreWindows, HasCoreRoom, HasWindow, IsTickRole, IsWindowAt, KeepsRest, LastInForce, last_sample_moment, logged, ticked}
-use Rattle.tick_pass.specs.Taking.{HasTaken, IsTaking}
+use Rattle.tick_pass.specs.Roles.{AreInForce, AreMailsOf, AreWindows, HasCoreRoom, HasWindow, IsTickRole, KeepsRest, LastInForce, last_sample_moment, logged, ticked}
+use Rattle.tick_pass.specs.Taking.{HasTaken}
 use Rattle.tick_pass.specs.Telling.{posts_where, ticks_where}
 use Rattle.tick_pass.proofs.Promising.{length_lines, posts_popped, posts_where_are}
 use Rattle.tick_pass.proofs.Residing.{number}

@@ -245,7 +245,10 @@ fn a_closing_pass_makes_a_tick_that_is_not_due(rt: HostRuntime) -> Result<(), Fa
     assert_eq!(rt; closed.kept.ticks.len(), 1);
     for tick in closed.kept.ticks.as_slice() {
         assert_eq!(rt; (tick.number, tick.moment, tick.taken), (1, 0, 0));
-        assert_eq!(rt; tick.lines.as_slice(), [silent(1024), silent(1024)].as_slice());
+        assert_eq!(rt;
+            tick.lines.as_slice(),
+            [silent(1024), silent(1024)].as_slice()
+        );
     }
     Ok(())
 }
@@ -274,7 +277,8 @@ fn a_mailed_sample_is_logged_with_the_moment_of_its_pass(rt: HostRuntime) -> Res
 }
 
 // How many of so many samples of function 0 its mail ring takes.
-fn mail_many(desk: &mut Desk, samples: u32) -> u32
+fn mail_many(desk: &mut Desk, samples: u64) -> u64
+    requires few { samples ≤ 100 }
     requires desk { IsDesk desk.old.plan desk.old.board desk.old.first desk.old.core desk.old.mails.items
         desk.old.token desk.old.role }
     ensures desk { IsDesk desk.new.plan desk.new.board desk.new.first desk.new.core desk.new.mails.items
@@ -282,8 +286,8 @@ fn mail_many(desk: &mut Desk, samples: u32) -> u32
     ensures role { desk.new.role ≡ desk.old.role }
 {
     let mut mailed = 0;
-    for _ in 0..samples {
-        if desk.mail(0, 1) {
+    for sample in 0..samples {
+        if desk.mail(0, sample) {
             mailed += 1;
         }
     }
@@ -344,8 +348,9 @@ fn without_a_sample_in_the_window_a_weight_stays(rt: HostRuntime) -> Result<(), 
     let closed = desk.close(100_001_000);
     assert_eq!(rt; closed.answer, Pass::Did(1));
     assert_eq!(rt; closed.weights, (512, 1536));
+    let last = closed.kept.ticks.get(1).expect(&rt, "a second tick");
     assert_eq!(rt;
-        closed.kept.ticks.as_slice()[1].lines.as_slice(),
+        last.lines.as_slice(),
         [silent(512), silent(1536)].as_slice()
     );
     Ok(())

@@ -1,4 +1,4 @@
-use Rattle.std.proofs.Common.{◌≡◌, ◌∙◌, ap, sym, subst, false, List}
+use Rattle.std.proofs.Common.{◌∙◌, ap, sym, subst, false, List}
 use Rattle.onvm_base.specs.declared.ids.FnId.{FnId}
 use Rattle.load_estimate.specs.declared.sample.Sample.{Sample}
 use Rattle.load_estimate.specs.Windows.{WindowState}

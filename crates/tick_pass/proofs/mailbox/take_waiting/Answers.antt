@@ -1,4 +1,4 @@
-use Rattle.std.proofs.Common.{◌≡◌, ◌∙◌, ℕ, ◌+◌, ◌-◌, ◌<◌, true, false, refl, arith, nat_lt}
+use Rattle.std.proofs.Common.{◌∙◌, ℕ, ◌+◌, ◌-◌, ◌<◌, true, false, refl, arith, nat_lt}
 use Rattle.tick_pass.proofs.Takes.{taken_as, taken_then}
 use Rattle.tick_pass.proofs.mailbox.take_waiting.Goals as goal
 

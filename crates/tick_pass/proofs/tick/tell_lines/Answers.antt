@@ -1,4 +1,4 @@
-use Rattle.std.proofs.Common.{◌≡◌, ◌<◌, ◌∙◌, ℕ, ap, arith, length}
+use Rattle.std.proofs.Common.{◌<◌, ◌∙◌, ℕ, ap, arith, length}
 use Rattle.std.specs.Prelude.{◌+◌, ◌++◌, drop}
 use Rattle.std.proofs.lemmas.List.{length_push}
 use Rattle.onvm_promises.specs.Lines.{lines_from}

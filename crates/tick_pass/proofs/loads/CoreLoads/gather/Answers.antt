@@ -1,5 +1,5 @@
-use Rattle.std.proofs.Common.{◌≡◌, ◌<◌, ◌∙◌, ◌≤◌, ℕ, ap, arith, get_or, length, refl, sym, subst}
-use Rattle.std.specs.Prelude.{◌≢◌, ◌+◌, ◌++◌, ◌∷◌, [], drop, map}
+use Rattle.std.proofs.Common.{◌≡◌, ◌<◌, ◌∙◌, ℕ, ap, arith, get_or, length, refl, sym, subst}
+use Rattle.std.specs.Prelude.{◌≢◌, ◌+◌, ◌++◌, drop, map}
 use Rattle.nf_registry.specs.Places.{residents, residents_from}
 use Rattle.std.proofs.lemmas.List.{length_push}
 use Rattle.std.proofs.lemmas.Option.{slice_get_read}

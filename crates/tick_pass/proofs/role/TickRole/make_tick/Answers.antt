@@ -1,4 +1,4 @@
-use Rattle.std.proofs.Common.{◌≡◌, ◌∙◌, ℕ, ap, arith, sym, subst, List, ◌++◌, ◌∷◌, [], drop, length, map, ◌+◌}
+use Rattle.std.proofs.Common.{◌≡◌, ◌∙◌, ap, arith, sym, subst, List, ◌++◌, ◌∷◌, [], length, map, ◌+◌}
 use Rattle.std.proofs.lemmas.List.{length-map}
 use Rattle.onvm_board.specs.Tokens.{grown}
 use Rattle.load_estimate.specs.declared.tick.Tick.{Tick}

@@ -1,8 +1,6 @@
-use Rattle.std.proofs.Common.{◌≡◌, ◌∙◌, ℕ, ap, arith, sym, subst, refl, List, length, Bool, false, true, Vec, Global, vec_capacity}
-use Rattle.std.specs.Prelude.{◌<◌, ◌++◌, ◌&&◌, ◌||◌, ◌≤◌}
-use Rattle.std.proofs.lemmas.Bool.{true≢false}
+use Rattle.std.proofs.Common.{◌∙◌, ℕ, ap, arith, sym, subst, refl, List, length, Bool, Vec, Global, vec_capacity}
+use Rattle.std.specs.Prelude.{◌<◌, ◌++◌, ◌||◌, ◌≤◌}
 use Rattle.onvm_board.specs.Tokens.{TokenView, grown}
-use Rattle.onvm_board.proofs.Stretches.{grown_twice}
 use Rattle.desc_ring.specs.declared.mail.Mail.{Mail}
 use Rattle.load_estimate.specs.declared.sample.Sample.{Sample}
 use Rattle.load_estimate.specs.declared.tick.Tick.{Tick}

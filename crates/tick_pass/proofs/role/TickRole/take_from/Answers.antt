@@ -1,4 +1,4 @@
-use Rattle.std.proofs.Common.{◌≡◌, ◌∙◌, ap, arith, ℕ, nat_lt}
+use Rattle.std.proofs.Common.{◌∙◌, ap, arith, ℕ, nat_lt}
 use Rattle.onvm_board.specs.Tokens.{TokenView}
 use Rattle.tick_pass.proofs.Working.{mails_next, windows_next}
 use Rattle.tick_pass.proofs.role.TickRole.take_from.Goals as goal

@@ -1,4 +1,4 @@
-use Rattle.std.proofs.Common.{◌≡◌, ◌∙◌, ap, arith, sym, subst, ℕ, ◌+◌, ◌-◌, ◌*◌, ◌<◌}
+use Rattle.std.proofs.Common.{◌∙◌, arith, sym, subst, ℕ, ◌+◌, ◌-◌, ◌*◌, ◌<◌}
 use Rattle.tick_pass.specs.Roles.{logged}
 use Rattle.tick_pass.specs.Taking.{HasTakenAll}
 use Rattle.tick_pass.proofs.Takes.{taken_next}

@@ -1,4 +1,4 @@
-use Rattle.std.proofs.Common.{ℕ, ◌-◌, ◌*◌, ◌≤◌}
+use Rattle.std.proofs.Common.{◌-◌, ◌*◌, ◌≤◌}
 use Rattle.tick_pass.specs.Roles.{HasRoom, IsAtWork, KeepsTicks, logged}
 use Rattle.tick_pass.specs.Taking.{HasTakenAll}
 use Rattle.tick_pass.proofs.role.TickRole.take_samples.Given as goal
