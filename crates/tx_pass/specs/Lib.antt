@@ -1,0 +1,5 @@
+pub mod Keeping
+pub mod Moving
+pub mod Noting
+pub mod Passing
+pub mod Roles
