@@ -11,6 +11,8 @@ mod outlet;
 mod role;
 mod room;
 mod slot;
+#[cfg(test)]
+mod tests;
 
 pub use onvm_promises::Pass;
 pub use role::TxRole;
