@@ -1,4 +1,5 @@
 pub mod Draining
+pub mod Examples
 pub mod Goes
 pub mod Noted
 pub mod Outlets

@@ -98,11 +98,7 @@ fn fill(
         → Handles board.now core.new.token core.new.lane core.new.output) }
 {
     for number in from..upto {
-        let arrival = Arrival {
-            number,
-            cursor: 0,
-            hops: 0,
-        };
+        let arrival = Arrival::new(number, 0, 0);
         if !bring(alloc, board, entrance, core, arrival, Verdict::Next)? {
             return Ok(false);
         }
@@ -132,17 +128,12 @@ fn a_frame_goes_on_to_its_next_function_and_leaves_by_its_port(
         mut last,
     } = Desk::start(rt.alloc(), &plan, &board, &mut lead)?;
     assert_eq!(rt; sender.pass(&board, &plan, &registry, 0), Pass::Idle);
-    let arrival = Arrival {
-        number: 1,
-        cursor: 0,
-        hops: 0,
-    };
     let brought = bring(
         rt.alloc(),
         &board,
         &mut entrance,
         &mut first,
-        arrival,
+        Arrival::new(1, 0, 0),
         Verdict::Next,
     )?;
     assert!(rt; brought);
@@ -169,6 +160,56 @@ fn a_frame_goes_on_to_its_next_function_and_leaves_by_its_port(
     Ok(())
 }
 
+// Five frames that go nowhere.
+fn bring_five(
+    alloc: Global,
+    board: &Board,
+    entrance: &mut Entrance,
+    core: &mut Core,
+) -> Result<bool, NoMemory>
+    requires enters { Enters board.now entrance.old.token entrance.old.part entrance.old.lane }
+    requires handles { Handles board.now core.old.token core.old.lane core.old.output }
+{
+    Ok(
+        bring(
+            alloc,
+            board,
+            entrance,
+            core,
+            Arrival::new(1, 0, 0),
+            Verdict::Out(1),
+        )? && bring(
+            alloc,
+            board,
+            entrance,
+            core,
+            Arrival::new(2, 0, 0),
+            Verdict::ToService(9),
+        )? && bring(
+            alloc,
+            board,
+            entrance,
+            core,
+            Arrival::new(3, 1, 1),
+            Verdict::Next,
+        )? && bring(
+            alloc,
+            board,
+            entrance,
+            core,
+            Arrival::new(4, 0, 31),
+            Verdict::Next,
+        )? && bring(
+            alloc,
+            board,
+            entrance,
+            core,
+            Arrival::new(5, 0, 0),
+            Verdict::Drop,
+        )?,
+    )
+}
+
 #[test]
 fn five_frames_end_each_with_its_cause(rt: HostRuntime) -> Result<(), Fail> {
     let plan = plan(rt.alloc())?;
@@ -180,47 +221,51 @@ fn five_frames_end_each_with_its_cause(rt: HostRuntime) -> Result<(), Fail> {
         mut sender,
         ..
     } = Desk::start(rt.alloc(), &plan, &board, &mut lead)?;
-    let ends = [
-        (0, 0, Verdict::Out(1), Why::NoPort),
-        (0, 0, Verdict::ToService(9), Why::NoService),
-        (1, 1, Verdict::Next, Why::ChainEnd),
-        (0, 31, Verdict::Next, Why::Hops),
-        (0, 0, Verdict::Drop, Why::Asked),
-    ];
-    let mut number = 0;
-    for (cursor, hops, verdict, _) in ends {
-        number += 1;
-        let arrival = Arrival {
-            number,
-            cursor,
-            hops,
-        };
-        let brought = bring(
-            rt.alloc(),
-            &board,
-            &mut entrance,
-            &mut first,
-            arrival,
-            verdict,
-        )?;
-        assert!(rt; brought);
-    }
+    assert!(rt; bring_five(rt.alloc(), &board, &mut entrance, &mut first)?);
     assert_eq!(rt; sender.pass(&board, &plan, &registry, 0), Pass::Did(5));
     assert_eq!(rt; sender.pass(&board, &plan, &registry, 0), Pass::Idle);
     let kept = sender.role.end();
-    let mut number = 0;
-    for (made, (_, _, _, why)) in kept.records.as_slice().iter().zip(ends) {
-        number += 1;
-        assert_eq!(rt; *made, record(number, Outcome::Dropped(FnId(0), why)));
-    }
-    assert_eq!(rt; (kept.records.len(), kept.sent.len()), (5, 0));
+    let ends = [
+        record(1, Outcome::Dropped(FnId(0), Why::NoPort)),
+        record(2, Outcome::Dropped(FnId(0), Why::NoService)),
+        record(3, Outcome::Dropped(FnId(0), Why::ChainEnd)),
+        record(4, Outcome::Dropped(FnId(0), Why::Hops)),
+        record(5, Outcome::Dropped(FnId(0), Why::Asked)),
+    ];
+    assert_eq!(rt; kept.records.as_slice(), ends.as_slice());
+    assert_eq!(rt; kept.sent.len(), 0);
     Ok(())
 }
 
+// Twice 65 frames, and what the four passes after each 65 answer.
+fn two_rounds(
+    alloc: Global,
+    board: &Board,
+    plan: &Plan,
+    registry: &Registry,
+    entrance: &mut Entrance,
+    core: &mut Core,
+    sender: &mut Sender,
+) -> Result<Option<[[Pass; 4]; 2]>, NoMemory>
+    requires enters { Enters board.now entrance.old.token entrance.old.part entrance.old.lane }
+    requires handles { Handles board.now core.old.token core.old.lane core.old.output }
+    requires sends { IsTxRole board.now plan.now sender.old.token sender.old.role }
+    requires registry { registry.now ≡ plan.now }
+    ensures sends { IfOk result (λ _. IsTxRole board.now plan.now sender.new.token sender.new.role) }
+{
+    if !fill(alloc, board, entrance, core, 1, 66)? {
+        return Ok(None);
+    }
+    let first = sender.four_passes(board, plan, registry);
+    if !fill(alloc, board, entrance, core, 66, 131)? {
+        return Ok(None);
+    }
+    let second = sender.four_passes(board, plan, registry);
+    Ok(Some([first, second]))
+}
+
 #[test]
-fn a_lane_that_is_full_turns_frames_back_and_is_throttled_at_its_age(
-    rt: HostRuntime,
-) -> Result<(), Fail> {
+fn a_full_lane_turns_frames_back_and_is_throttled_at_its_age(rt: HostRuntime) -> Result<(), Fail> {
     let plan = plan(rt.alloc())?;
     let registry = Registry::make(rt.alloc(), &plan)?;
     let (board, mut lead) = Board::make(rt.alloc(), &Layout::of(&plan))?;
@@ -230,21 +275,17 @@ fn a_lane_that_is_full_turns_frames_back_and_is_throttled_at_its_age(
         mut sender,
         ..
     } = Desk::start(rt.alloc(), &plan, &board, &mut lead)?;
-    for round in 0..2 {
-        let from = 1 + 65 * round;
-        let filled = fill(
-            rt.alloc(),
-            &board,
-            &mut entrance,
-            &mut first,
-            from,
-            from + 65,
-        )?;
-        assert!(rt; filled);
-        for moved in [Pass::Did(32), Pass::Did(32), Pass::Did(1), Pass::Idle] {
-            assert_eq!(rt; sender.pass(&board, &plan, &registry, 0), moved);
-        }
-    }
+    let moved = two_rounds(
+        rt.alloc(),
+        &board,
+        &plan,
+        &registry,
+        &mut entrance,
+        &mut first,
+        &mut sender,
+    )?;
+    let each = [Pass::Did(32), Pass::Did(32), Pass::Did(1), Pass::Idle];
+    assert_eq!(rt; moved, Some([each, each]));
     assert_eq!(rt; sender.pass(&board, &plan, &registry, 99_999), Pass::Idle);
     assert_eq!(rt; sender.pass(&board, &plan, &registry, 100_000), Pass::Idle);
     let kept = sender.role.end();

@@ -47,6 +47,18 @@ pub struct Arrival {
     pub hops: u8,
 }
 
+impl Arrival {
+    pub fn new(number: u32, cursor: u8, hops: u8) -> Arrival
+        ensures { result ≡ record { number = number; cursor = cursor; hops = hops } }
+    {
+        Arrival {
+            number,
+            cursor,
+            hops,
+        }
+    }
+}
+
 fn parcel(alloc: Global, arrival: Arrival) -> Result<Parcel, NoMemory>
     requires { arrival.hops < MAX_HOPS }
     ensures trail { IfOk result (λ parcel. length parcel.trail ≡ arrival.hops) }

@@ -91,4 +91,17 @@ impl Sender {
     {
         self.role.pass(&mut self.token, board, plan, registry, now)
     }
+
+    /// What four passes at moment 0 answer.
+    pub fn four_passes(&mut self, board: &Board, plan: &Plan, registry: &Registry) -> [Pass; 4]
+        requires sends { IsTxRole board.now plan.now self.old.token self.old.role }
+        requires registry { registry.now ≡ plan.now }
+        ensures sends { IsTxRole board.now plan.now self.new.token self.new.role }
+    {
+        let first = self.pass(board, plan, registry, 0);
+        let second = self.pass(board, plan, registry, 0);
+        let third = self.pass(board, plan, registry, 0);
+        let fourth = self.pass(board, plan, registry, 0);
+        [first, second, third, fourth]
+    }
 }
