@@ -50,8 +50,8 @@ module _ (K V S T : RattleType) (q : full.Ghosts K.Denot) (e : eq.Ghosts K.Denot
       let k = KeyRef.the_row K in
       let v = Slot.the_row K V Heap.the_row ghosts in
       let map : (e' : eq.Ghosts k.Denot) (h' : hash.Ghosts k.Denot)
-          → IsSend (HashMap.the_field k v S Heap.the_row T e' h' b w ghosts).row =
-          λ e' h'. HashMap-send k v S T e' h' b w (KeyRef-send K yk) slot ss in
+      → IsSend (HashMap.the_field k v S Heap.the_row T e' h' b w ghosts).row =
+      λ e' h'. HashMap-send k v S T e' h' b w (KeyRef-send K yk) slot ss in
       let heap = send in
       search (map, sendable) depth 20
 
@@ -91,8 +91,8 @@ hasher_send = search sendable depth 20
 inside_send : IsSend inside.the_row
 inside_send =
     let flows_send =
-        cache_send Key.the_row (Option.the_row Chain.the_row) (Default.the_row Fold.the_row) Fold.the_row _ _ _ _ _
-        key_send key_sync pick_send hasher_send in
+    cache_send Key.the_row (Option.the_row Chain.the_row) (Default.the_row Fold.the_row) Fold.the_row _ _ _ _ _
+    key_send key_sync pick_send hasher_send in
     declared_send inside.the_type
     (port.the_send, (compiled_send, (flows_send, tt)))
 

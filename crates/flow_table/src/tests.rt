@@ -164,7 +164,11 @@ fn ask_for_all(rt: &impl Abort, table: &mut FlowTable, plan: &Plan)
     ensures { table.new ≡ table.old }
 {
     for source in 0..=MAX_FLOWS as u16 {
-        let expected = if source <= 511 { ChainId(1) } else { ChainId(0) };
+        let expected = if source <= 511 {
+            ChainId(1)
+        } else {
+            ChainId(0)
+        };
         let found = table.chain(plan, &udp(None, Some((source, 9))));
         assert_eq!(rt; found, expected);
     }
