@@ -1,0 +1,4 @@
+pub mod History
+pub mod Made
+pub mod Standing
+pub mod Streams
