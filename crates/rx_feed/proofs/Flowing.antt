@@ -7,7 +7,7 @@ use Rattle.onvm_base.specs.declared.limits.TheConstants.{MAX_FRAME_BYTES, MAX_PO
 use Rattle.pcap_in.specs.Calls.{HasRead}
 use Rattle.pcap_in.specs.Classic.{IsCapture}
 use Rattle.pcap_in.specs.Faulty.{IsCaptureUpTo}
-use Rattle.pcap_in.specs.Reading.{Pulls, Reading}
+use Rattle.pcap_in.specs.Reading.{Pulls, Reading, unfed_reading}
 use Rattle.pcap_in.specs.declared.judge.TheConstants.{HEADER_LEN, HEAD_LEN}
 use Rattle.pcap_in.specs.declared.pull.PcapFault.{PcapFault}
 use Rattle.pcap_in.specs.declared.pull.Pull.TheVariants as pull
@@ -164,3 +164,58 @@ few_fed taken waiting frames r flow within =
       within.few,
       within.small,
     )
+
+-- where nothing waits
+pub none_waits : (taken items : List ℕ) (frames : List Frame) (r : Reading) (n : ℕ) → n ≡ 0 → IsFlow taken frames r (take n items)
+    → IsFlow taken frames r []
+none_waits taken items frames r n zero flow =
+    let P : ℕ → Type 0 = λ k. IsFlow taken frames r (take k items) in
+    subst P zero flow
+
+-- one frame more is within the limits, or too many are
+pub within_more : (frames : List Frame) (frame : Frame) (count bytes : ℕ) → count ≡ length frames → bytes ≡ bytes_of frames
+    → count + 1 ≤ MAX_PORT_FRAMES → bytes + length frame.packet ≤ MAX_PORT_BYTES → IsWithinLimits (frames ++ frame ∷ [])
+within_more frames frame count bytes counted measured few small =
+    record {
+      few = omega (arith, counted, few, length-append frames (frame ∷ []));
+      small = omega (
+        arith,
+        measured,
+        small,
+        sum_by-append (λ (f : Frame). length f.packet) frames (frame ∷ []),
+        sum_by-cons (λ (f : Frame). length f.packet) frame [],
+      );
+    }
+
+pub too_large : (frames : List Frame) (frame : Frame) (count bytes : ℕ) → count ≡ length frames → bytes ≡ bytes_of frames
+    → (MAX_PORT_FRAMES < count + 1) ⊎ (MAX_PORT_BYTES < bytes + length frame.packet)
+    → IsWithinLimits (frames ++ frame ∷ []) → ⊥
+too_large frames frame count bytes counted measured (inl many) within =
+    omega (arith, counted, many, within.few, length-append frames (frame ∷ []))
+too_large frames frame count bytes counted measured (inr large) within =
+    omega (
+      arith,
+      measured,
+      large,
+      within.small,
+      sum_by-append (λ (f : Frame). length f.packet) frames (frame ∷ []),
+      sum_by-cons (λ (f : Frame). length f.packet) frame [],
+    )
+
+-- nothing was taken
+pub new_flow : (r : Reading) → r ≡ unfed_reading → IsFlow [] [] r []
+new_flow r is =
+    let P : Reading → Type 0 = λ x. HasRead [] [] x in
+    record { fed = []; taken_is = refl; read = subst P (sym is) (inl (refl, refl, refl, refl)); few = omega arith }
+
+-- a reader that answered More still wants more
+pub wants_more : (old new : Reading) → Pulls old pull.More new → WantsMore new
+wants_more old new pulls =
+    let P : Reading → Type 0 = λ r. Pulls r pull.More r in
+    subst P (sym pulls.0) (refl, pulls.1, pulls.2)
+
+pub waits_none : (taken items : List ℕ) (frames : List Frame) (r : Reading) (n : ℕ) → n ≡ 0 → IsFlow taken frames r []
+    → IsFlow taken frames r (take n items)
+waits_none taken items frames r n zero flow =
+    let P : ℕ → Type 0 = λ k. IsFlow taken frames r (take k items) in
+    subst P (sym zero) flow

@@ -1,3 +1,4 @@
 pub mod Flowing
 pub mod Making
+pub mod Streaming
 pub mod Taking

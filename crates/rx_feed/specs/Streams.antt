@@ -80,24 +80,6 @@ GoesOn old new = (length old.rest < length new.rest) ⊎ ((new.rest ≡ old.rest
 abbrev pub failed : Standing → Standing
 failed s = record s { fault = Some Read }
 
--- the same where a take was tried: it failed where the answer is no
-abbrev pub after_take : {E : Type 0} → Result Bool E → Standing → Standing
-after_take (Ok false) s = failed s
-after_take (Ok true) s = s
-after_take (Err e) s = s
-
--- the frames with the one that is given
-abbrev pub with_given : Answer → List Frame → List Frame
-with_given (answer.Frame frame) frames = frames ++ frame ∷ []
-with_given answer.End frames = frames
-with_given (answer.Stop fault) frames = frames
-
--- the same where the capture was asked for its next frame
-abbrev pub after_answer : {E : Type 0} → Result Answer E → Standing → Standing
-after_answer (Ok (answer.Stop Read)) s = failed s
-after_answer (Ok answer) s = s
-after_answer (Err e) s = s
-
 -- what stops a stream is there
 abbrev pub IsStopOf : FeedFault → Standing → Type 0
 IsStopOf Read s = IsSoundSoFar s.taken

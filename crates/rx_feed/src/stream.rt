@@ -2,11 +2,13 @@
 ghost use Rattle.std.specs.Prelude.{◌≡◌, ◌≢◌, ◌⊎◌, ◌+◌, ◌<◌, ◌≤◌, ◌∷◌, ◌++◌, [], ℕ, List, Option, true, false, IfOk, IfSome, IsSome, None, OnErr, OnOk, Ok, Some, length, option_to_list};
 ghost use Rattle.std.specs.Io.KnownBytes.{ReadConsumes};
 ghost use Rattle.std.specs.Result.{result_ok};
+ghost use Rattle.std.specs.Bool.{OnFalse, OnTrue};
+ghost use Rattle.onvm_base.specs.declared.limits.TheConstants.{MAX_PORT_BYTES, MAX_PORT_FRAMES};
 ghost use Rattle.onvm_host.specs.Deeds.{Amounts};
 ghost use Rattle.ingress.specs.Fed.{WantsMore};
 ghost use Rattle.rx_feed.specs.History.{bytes_in, frames_in};
 ghost use Rattle.rx_feed.specs.Standing.{HasStopped, IsTakenSince, StandsSoFar};
-ghost use Rattle.rx_feed.specs.Streams.{GoesOn, IsAnswer, IsFlowing, IsStream, SameFrames, after_answer, after_take, standing_of, waiting_of};
+ghost use Rattle.rx_feed.specs.Streams.{GoesOn, IsAnswer, IsFlowing, IsStream, SameFrames, failed, standing_of, waiting_of};
 
 use crate::fault::FeedFault;
 use crate::history::{PulledFrames, TakenBytes};
@@ -118,12 +120,13 @@ impl Stream {
         ensures same { (self.new.ended ≡ false) × (self.new.taken ≡ self.old.taken)
             × (self.new.reader ≡ self.old.reader) }
     {
+        let count = self.count + 1;
         let bytes = self.bytes + frame.packet.bytes().len() as u64;
-        if self.count as usize == MAX_PORT_FRAMES || bytes > MAX_PORT_BYTES {
+        if !are_within(count, bytes) {
             self.fault = Some(FeedFault::TooMany);
             return None;
         }
-        self.count += 1;
+        self.count = count;
         self.bytes = bytes;
         self.pulled.add(&frame);
         Some(frame)
@@ -136,10 +139,12 @@ impl Stream {
         ensures flowing { OnErr result (IsFlowing (frames_in self.old.pulled) self.new) }
         ensures so_far { StandsSoFar (bytes_in self.new.taken) (frames_in self.new.pulled) }
         ensures same { SameFrames self.old self.new }
-        ensures since { (left : Option (List ℕ)) (takes : Amounts)
+        ensures since { result ≢ Ok (Answer.Stop FeedFault.Read) → (left : Option (List ℕ)) (takes : Amounts)
             → IsTakenSince left (S.left source.old) takes (S.takes source.old) (standing_of self.old)
-            → IsTakenSince left (S.left source.new) takes (S.takes source.new)
-            (after_answer result (standing_of self.new)) }
+            → IsTakenSince left (S.left source.new) takes (S.takes source.new) (standing_of self.new) }
+        ensures failed { result ≡ Ok (Answer.Stop FeedFault.Read) → (left : Option (List ℕ)) (takes : Amounts)
+            → IsTakenSince left (S.left source.old) takes (S.takes source.old) (standing_of self.old)
+            → IsTakenSince left (S.left source.new) takes (S.takes source.new) (failed (standing_of self.new)) }
         ensures named { S.name source.new ≡ S.name source.old }
     {
         self.feed_waiting()?;
@@ -167,10 +172,12 @@ impl Stream {
         ensures failed { result ≡ Ok false → (self.new.reader ≡ self.old.reader)
             × (self.new.taken ≡ self.old.taken) × (self.new.waiting ≡ 0) }
         ensures on { result ≡ Ok true → (self.new.waiting ≡ 0) × GoesOn self.old.reader self.new.reader }
-        ensures since { (left : Option (List ℕ)) (takes : Amounts)
+        ensures since { result ≢ Ok false → (left : Option (List ℕ)) (takes : Amounts)
             → IsTakenSince left (S.left source.old) takes (S.takes source.old) (standing_of self.old)
-            → IsTakenSince left (S.left source.new) takes (S.takes source.new)
-            (after_take result (standing_of self.new)) }
+            → IsTakenSince left (S.left source.new) takes (S.takes source.new) (standing_of self.new) }
+        ensures failed_since { result ≡ Ok false → (left : Option (List ℕ)) (takes : Amounts)
+            → IsTakenSince left (S.left source.old) takes (S.takes source.old) (standing_of self.old)
+            → IsTakenSince left (S.left source.new) takes (S.takes source.new) (failed (standing_of self.new)) }
         ensures named { S.name source.new ≡ S.name source.old }
     {
         let Ok(count) = take_piece(source, &mut self.piece) else {
@@ -203,6 +210,14 @@ impl Stream {
         self.waiting = 0;
         Ok(())
     }
+}
+
+// Whether a port takes so many frames with so many bytes.
+fn are_within(count: u32, bytes: u64) -> bool
+    ensures within { OnTrue result ((count ≤ MAX_PORT_FRAMES) × (bytes ≤ MAX_PORT_BYTES)) }
+    ensures large { OnFalse result ((MAX_PORT_FRAMES < count) ⊎ (MAX_PORT_BYTES < bytes)) }
+{
+    count as usize <= MAX_PORT_FRAMES && bytes <= MAX_PORT_BYTES
 }
 
 // Takes the next bytes of a source.
