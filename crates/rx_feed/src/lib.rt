@@ -2,10 +2,14 @@
 #![tactic(auto)]
 
 mod fault;
+mod feed;
 mod generator;
 mod history;
+mod intake;
 mod stream;
 
 pub use fault::FeedFault;
+pub use feed::Feed;
 pub use generator::Generator;
+pub use intake::{Intake, IntakeRoom};
 pub use stream::PIECE_LEN;
