@@ -1,5 +1,6 @@
 -- A feed, and where a port stands with it.
-use Rattle.std.specs.Prelude.{ℕ, ◌≡◌, ◌≤◌, Bool, true, false, List, [], Option, Some, None}
+use Rattle.std.specs.Prelude.{ℕ, ◌≡◌, ◌-◌, ◌≤◌, Bool, true, false, List, [], Option, Some, None, length}
+use Rattle.onvm_base.specs.declared.limits.TheConstants.{MAX_PORT_FRAMES}
 use Rattle.onvm_host.specs.Deeds.{Amounts}
 use Rattle.rx_feed.specs.Made.{Making, made_frames}
 use Rattle.rx_feed.specs.Standing.{IsStanding, IsTakenSince, Standing}
@@ -54,6 +55,12 @@ StaysFeed {I} name_of (Some (feed.Live source)) new =
     (later : I) × (new ≡ Some (feed.Live later)) × (name_of later ≡ name_of source)
 StaysFeed name_of (Some (feed.Made g)) new =
     (later : Making) × (new ≡ Some (feed.Made later)) × (later.seed ≡ g.seed) × (later.count ≡ g.count)
+
+-- at most so many frames more are pulled
+abbrev pub most_left : {I : Type 0} → Option (Feed I) → Standing → ℕ
+most_left None s = 0
+most_left (Some (feed.Live source)) s = MAX_PORT_FRAMES - length s.pulled
+most_left (Some (feed.Made g)) s = g.count - length s.pulled
 
 -- Before the first frame
 

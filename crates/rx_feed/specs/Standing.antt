@@ -53,7 +53,7 @@ pub record IsStanding (s : Standing) : Type 0 where
   pub broken : (fault : PcapFault) → s.fault ≡ Some (Capture fault) → (more : List ℕ) → (s.complete ≡ true → more ≡ [])
       → IsCaptureUpTo (s.taken ++ more) s.pulled fault
   pub too_many : s.fault ≡ Some TooMany → PassesLimit s.taken
-  pub read : s.fault ≡ Some Read → IsSoundSoFar s.taken
+  pub read : s.fault ≡ Some Read → IsSoundSoFar s.taken × (s.complete ≡ false)
 
 -- the takes at the end: the one that found no more bytes, or the one that failed
 abbrev pub last_takes : Bool → Option FeedFault → Amounts

@@ -82,7 +82,7 @@ failed s = record s { fault = Some Read }
 
 -- what stops a stream is there
 abbrev pub IsStopOf : FeedFault → Standing → Type 0
-IsStopOf Read s = IsSoundSoFar s.taken
+IsStopOf Read s = IsSoundSoFar s.taken × (s.complete ≡ false)
 IsStopOf (Capture fault) s = (more : List ℕ) → (s.complete ≡ true → more ≡ []) → IsCaptureUpTo (s.taken ++ more) s.pulled fault
 IsStopOf TooMany s = ⊥
 

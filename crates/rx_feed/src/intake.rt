@@ -1,5 +1,6 @@
 //! A port's frames, one after another.
 ghost use Rattle.std.specs.Prelude.{◌≡◌, ◌≢◌, ◌+◌, ◌<◌, ◌≤◌, ◌∷◌, ◌++◌, [], ℕ, List, Option, true, false, IfOk, IsSome, IsTrue, ◌↔◌, None, OnErr, OnOk, Ok, Some, length, option_to_list};
+ghost use Rattle.onvm_base.specs.declared.frame.Frame.{Frame};
 ghost use Rattle.onvm_host.specs.Deeds.{Amounts};
 ghost use Rattle.rx_feed.specs.Feeds.{IsFreshFeed, IsPulledOf, IsTakenFrom, StaysFeed, WasLeft, fresh_standing};
 ghost use Rattle.rx_feed.specs.Rooms.{IsRoom};
@@ -93,6 +94,25 @@ impl<I: Source> Intake<I> {
         ensures same { StaysFeed I.name self.old.feed self.new.feed }
     {
         self.kind.next(alloc)
+    }
+
+    /// Reads the rest, and keeps no frame. After want of memory it may have read a part of the rest,
+    /// and the next call goes on from there.
+    pub fn drain(&mut self, alloc: Global) -> Result<(), NoMemory>
+        ensures ok { OnOk result (HasStopped self.new.standing) }
+        ensures more { (frames : List Frame) × (self.new.standing.pulled ≡ self.old.standing.pulled ++ frames) }
+        ensures frames { IsPulledOf self.new.feed self.new.standing }
+        ensures since { (left : Option (List ℕ)) (takes : Amounts)
+            → IsTakenFrom I.left I.takes left takes self.old.feed self.old.standing
+            → IsTakenFrom I.left I.takes left takes self.new.feed self.new.standing }
+        ensures same { StaysFeed I.name self.old.feed self.new.feed }
+    {
+        'frames: loop {
+            let Some(frame) = self.next(alloc)? else {
+                return Ok(());
+            };
+            drop(frame);
+        }
     }
 }
 

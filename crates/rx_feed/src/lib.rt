@@ -6,6 +6,7 @@ mod feed;
 mod generator;
 mod history;
 mod intake;
+pub mod laws;
 mod stream;
 
 pub use fault::FeedFault;

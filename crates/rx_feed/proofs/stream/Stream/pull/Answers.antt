@@ -82,8 +82,10 @@ returns-then-not-branch-clause-answer g c =
     let stays = c.feed_more.ensures.failed told in
     let pulls : Pulls c.pulls.self.reader pull.More c.next.new.self = search rules in
     let Wants : Reading → Type 0 = λ r. WantsMore r in
-    sound_flow (bytes_in new.taken) (frames_in c.pulls.self.pulled) new.reader
-    (none_waits (bytes_in new.taken) new.piece.items (frames_in c.pulls.self.pulled) new.reader new.waiting stays.2
-    c.feed_more.ensures.flowing.flow)
-    c.pulls.invariant.flowing.counted.within
-    (subst Wants (sym stays.0) (wants_more c.pulls.self.reader c.next.new.self pulls))
+    let wants : WantsMore new.reader = subst Wants (sym stays.0) (wants_more c.pulls.self.reader c.next.new.self pulls) in (
+      sound_flow (bytes_in new.taken) (frames_in c.pulls.self.pulled) new.reader
+          (none_waits (bytes_in new.taken) new.piece.items (frames_in c.pulls.self.pulled) new.reader new.waiting stays.2
+          c.feed_more.ensures.flowing.flow)
+          c.pulls.invariant.flowing.counted.within wants,
+      wants.1,
+    )
