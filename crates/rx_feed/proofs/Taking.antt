@@ -57,7 +57,7 @@ taken_more left l l' takes t t' s s' bytes going sound going' sound' taken consu
           (calls_going takes t since.earlier s going sound since.calls) call
           ∙ ap (λ x. takes ++ x) (sym (append-nil (since.earlier ++ Some (length bytes) ∷ [])))
           ∙ ap (λ x. takes ++ ((since.earlier ++ Some (length bytes) ∷ []) ++ x))
-              (sym (none_last s'.complete s'.fault going' sound'));
+          (sym (none_last s'.complete s'.fault going' sound'));
       moved = subst Q (sym (ap (length {A = ℕ}) taken ∙ length-append s.taken bytes))
           (Moved-append (length s.taken) (length bytes) since.earlier (Some (length bytes) ∷ []) since.moved
           (Moved-one (length bytes) some));

@@ -16,7 +16,7 @@ returns-then-not-are_within-clause-stream c =
     let frames : List Frame = frames_in c.args.self.now.pulled in
     let packet : length c.bytes.result.now ≡ length c.args.frame.packet = ap (length {A = ℕ}) c.bytes.ensures.same in
     let large : (MAX_PORT_FRAMES < c.args.self.now.count + 1)
-        ⊎ (MAX_PORT_BYTES < c.args.self.now.bytes + length c.args.frame.packet) = search rules in
+    ⊎ (MAX_PORT_BYTES < c.args.self.now.bytes + length c.args.frame.packet) = search rules in
     record {
       standing = record {
         within = old.counted.within;
@@ -43,7 +43,7 @@ returns-clause-stream c =
     let few : c.args.self.now.count + 1 ≤ MAX_PORT_FRAMES = search rules in
     let small : c.args.self.now.bytes + length c.args.frame.packet ≤ MAX_PORT_BYTES = search rules in
     let Flow : List Frame → Type 0 = λ fs.
-        IsFlow (bytes_in c.args.self.now.taken) fs c.args.self.now.reader (waiting_of c.args.self.now) in
+    IsFlow (bytes_in c.args.self.now.taken) fs c.args.self.now.reader (waiting_of c.args.self.now) in
     let Within : List Frame → Type 0 = λ fs. IsWithinLimits fs in
     let within : IsWithinLimits (frames ++ c.args.frame ∷ []) =
     within_more frames c.args.frame c.args.self.now.count c.args.self.now.bytes old.counted.count old.counted.bytes few small in

@@ -18,7 +18,7 @@ feed_waiting-requires g c =
     let fits : c.in-Ok.count ≤ PIECE_LEN = c.in-Ok.ensures.bound in
     let size : length (take c.in-Ok.count piece) ≡ c.in-Ok.count = length-take-le c.in-Ok.count piece (omega (arith, long, fits)) in
     let flow = none_waits (bytes_in self.taken) self.piece.items (frames_in self.pulled) self.reader self.waiting
-        c.requires.none_waits old.flow in
+    c.requires.none_waits old.flow in
     let Flow : List ℕ → Type 0 = λ t. IsFlow t (frames_in self.pulled) self.reader (take c.in-Ok.count piece) in
     record {
       flowing = record {

@@ -9,7 +9,7 @@ pub returns-clause-flowing : goal.returns-clause-flowing
 returns-clause-flowing c =
     let old = c.requires.flowing in
     let is : c.feed.new.self
-        ≡ record c.args.self.now.reader { rest = c.args.self.now.reader.rest ++ waiting_of c.args.self.now } = search rules in
+    ≡ record c.args.self.now.reader { rest = c.args.self.now.reader.rest ++ waiting_of c.args.self.now } = search rules in
     record {
       piece = record { long = old.piece.long; fits = omega arith; last = λ _. refl };
       flow = fed_flow (bytes_in c.args.self.now.taken) (waiting_of c.args.self.now) (frames_in c.args.self.now.pulled)
