@@ -70,12 +70,8 @@ pub fn cost_of<C: Clock>(
         cost.compiled = cost.compiled.min(listed.saturating_sub(ruled));
         cost.known = cost.known.min(known.saturating_sub(listed));
         cost.new = cost.new.min(end.saturating_sub(known));
-        cost.sum = cost
-            .sum
-            .wrapping_add(one)
-            .wrapping_add(two)
-            .wrapping_add(three)
-            .wrapping_add(four);
+        let sum = one.wrapping_add(two).wrapping_add(three).wrapping_add(four);
+        cost.sum = cost.sum.wrapping_add(sum);
     }
     Ok(cost)
 }
