@@ -1,0 +1,4 @@
+pub mod Handing
+pub mod Serving
+pub mod Stations
+pub mod Steps
