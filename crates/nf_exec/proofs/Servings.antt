@@ -1,19 +1,21 @@
 -- Turns one after the other.
 use Rattle.std.proofs.Common.{◌≡◌, ℕ, ◌+◌, ◌<◌, ◌≤◌, Bool, true, false, List, [], ◌∷◌, ◌++◌, length, Some, None, Option, refl, sym, ap, ◌∙◌, subst, arith, append-nil, append_assoc}
 use Rattle.std.specs.Prelude.{◌==◌, if◌then◌else◌}
+use Rattle.std.proofs.lemmas.Bool.{eq-eqb}
 use Rattle.onvm_base.specs.declared.ids.BufId.{BufId}
 use Rattle.onvm_base.specs.declared.ids.FnId.{FnId}
 use Rattle.onvm_base.specs.declared.ids.RingId.TheVariants.{Lane, Output}
 use Rattle.onvm_base.specs.declared.outcome.Record.{Record}
 use Rattle.onvm_base.specs.declared.plan.Plan.{Plan}
 use Rattle.onvm_core.specs.declared.entry.Entry.{Entry}
-use Rattle.onvm_core.specs.declared.layout.Word.TheVariants.{Cell}
+use Rattle.onvm_core.specs.declared.layout.Word.TheVariants.{Cell, Weight}
 use Rattle.onvm_core.specs.declared.step.Act.TheVariants.{Push, Empty, Look}
-use Rattle.onvm_core.specs.Handling.{budget_left, is_push_on}
+use Rattle.onvm_core.specs.Handling.{budget, budget_left, core_hand, is_push_on}
 use Rattle.onvm_core.specs.Journals.{GoesThrough, Handling, journal}
 use Rattle.onvm_core.specs.Layouts.{core_role, feeder_count}
 use Rattle.onvm_core.specs.Logs.{Hand, Log}
 use Rattle.onvm_core.specs.Places.{how_many, one_if}
+use Rattle.onvm_core.proofs.Lists.{if_met}
 use Rattle.onvm_core.proofs.Once.{how_many-append}
 use Rattle.onvm_board.specs.Tokens.{BoardView, TokenView, grown, parcel_in}
 use Rattle.onvm_board.proofs.Stretches.{grown_twice}
@@ -29,7 +31,7 @@ use Rattle.onvm_promises.proofs.Moving.{dry_more}
 use Rattle.nf_exec.specs.declared.turn.Turn.{Turn}
 use Rattle.nf_exec.specs.declared.turn.Turn.TheVariants.{Handled, Barred, Dry, Wanting}
 use Rattle.nf_exec.specs.Handing.{HasGoneOn, IsUnmoved, by_handling}
-use Rattle.nf_exec.specs.Serving.{EndsBy, HasPassedOn, IsServing, is_barred, is_wanting}
+use Rattle.nf_exec.specs.Serving.{EndsBy, HasPassedOn, IsServing, is_barred, is_handled_turn, is_wanting}
 use Rattle.nf_exec.specs.Stations.{Stands}
 use Rattle.nf_exec.specs.Steps.{DoesFrom, MayDo}
 use Rattle.nf_exec.specs.Steps.IsServiceStep.{APush}
@@ -136,11 +138,11 @@ serving_passed acts state site plan f buf was now a b c own first done =
         first.does entries,
       );
       steps = (APush buf (made acts state site plan f buf was now b c own first.stands done), first.steps);
-      unlooked = first.unlooked;
+      unlooked = omega (arith, first.unlooked);
       pushes = omega (arith, first.pushes, pushed);
       handles = omega (arith, first.handles);
-      barred = first.barred;
-      yields = first.yields;
+      barred = omega (arith, first.barred);
+      yields = omega (arith, first.yields);
       left = omega (arith, first.left, pass_left acts state site plan f buf was now b c own first.stands done);
       ends = tt;
       stands = pass_stands acts state site plan f buf was now b c own first.stands done;
@@ -196,3 +198,35 @@ module _ {N : Type 0} (acts : N → Acts) (state : N → Tree) where
     goes = sym is.state_is;
     narrows = is.narrows;
   }
+
+-- A look at the weight word
+
+pub looked_stands : (site : BoardView) (f : FnId) (seen : ℕ) (before after : TokenView)
+    → after ≡ grown (Look (Weight f) seen None ∷ []) before.hand before → Stands site.layout None before
+    → Stands site.layout None after
+looked_stands site f seen before after grew stands = record {
+  hand = ap (λ (t : TokenView). t.hand) grew ∙ stands.hand;
+  logged = ap (λ (t : TokenView). core_hand t.log) grew ∙ stands.logged;
+  ready = λ hand e. no_hand hand e;
+}
+  where
+    no_hand : {P : Type 0} (hand : Hand) → None ≡ Some hand → P
+    no_hand hand e = cc
+
+pub budget_begun : (plan : Plan) (f : FnId) (seen : ℕ) (before after : TokenView)
+    → after ≡ grown (Look (Weight f) seen None ∷ []) before.hand before
+    → budget_left plan f after.log ≡ budget plan f seen
+budget_begun plan f seen before after grew =
+    ap (λ (t : TokenView). budget_left plan f t.log) grew
+    ∙ if_met (f.0 == f.0) (budget plan f seen) (budget_left plan f before.log) (eq-eqb f.0 f.0 refl)
+
+pub weighed_journal : (f : FnId) (seen : ℕ) (before after : TokenView)
+    → after ≡ grown (Look (Weight f) seen None ∷ []) before.hand before → journal f after.log ≡ journal f before.log
+weighed_journal f seen before after grew =
+    ap (λ (t : TokenView). journal f t.log) grew ∙ append-nil (journal f before.log)
+
+pub unhandled : (last : Turn) → (last ≡ Handled → ⊥) → one_if (is_handled_turn last) ≡ 0
+unhandled Handled other = absurd (other refl)
+unhandled Barred other = refl
+unhandled Dry other = refl
+unhandled (Wanting buf) other = refl

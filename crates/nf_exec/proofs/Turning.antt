@@ -164,6 +164,22 @@ module _ (site : BoardView) (plan : Plan) (f : FnId) (at seen : ℕ) (before aft
 
 -- A search behind a glance that found room
 
+pub roomy_grew : (site : BoardView) (f : FnId) (before after : TokenView) → HasGlanced site f true before after
+    → after ≡ grown (Look (Cell (Output f) (push_count (Output f) before.log % site.layout.output)) 0 None ∷ [])
+    before.hand before
+roomy_grew site f before after is =
+    is.grew
+    ∙ ap (λ (n : ℕ).
+    grown (Look (Cell (Output f) (push_count (Output f) before.log % site.layout.output)) n None ∷ []) before.hand before)
+    (is.none refl)
+
+pub dry_journal : (site : BoardView) (f : FnId) (first lanes : ℕ) (before mid after : TokenView)
+    → HasGlanced site f true before mid → HasSearched site f first lanes None mid after
+    → journal f after.log ≡ journal f before.log
+dry_journal site f first lanes before mid after seen is =
+    ap (λ (t : TokenView). journal f t.log) is.grew ∙ empties_journal site.layout f mid.log is.empties is.are
+    ∙ ap (λ (t : TokenView). journal f t.log) seen.grew ∙ append-nil (journal f before.log)
+
 -- nothing was found
 pub turn_dry : (site : BoardView) (plan : Plan) (f : FnId) (at first lanes : ℕ) (before mid after : TokenView)
     → IsLayoutOf plan site.layout
