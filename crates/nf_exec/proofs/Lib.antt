@@ -1,7 +1,9 @@
 pub mod Doing
 pub mod Elsewhere
 pub mod Empties
+pub mod Passing
 pub mod Searching
 pub mod Servings
 pub mod Stationing
 pub mod Turning
+pub mod Working

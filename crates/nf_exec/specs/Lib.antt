@@ -1,4 +1,5 @@
 pub mod Handing
+pub mod Roles
 pub mod Serving
 pub mod Stations
 pub mod Steps

@@ -7,10 +7,12 @@
 #![tactic(auto)]
 
 mod budget;
+mod role;
 mod slot;
 mod station;
 mod turn;
 
 pub use budget::budget_of;
+pub use role::{CoreRole, Kept};
 pub use station::Station;
 pub use turn::{Service, Turn};
