@@ -322,3 +322,17 @@ module _ (site : BoardView) (plan : Plan) (functions : List FnId) (upto n k : �
     );
     served = all_served;
   }
+
+-- where a parcel is kept nothing is said of who was served
+pub passing_kept : (site : BoardView) (plan : Plan) (functions : List FnId) (upto other n : ℕ)
+    (start after : TokenView) → (core_hand after.log ≡ None → ⊥) → IsPassing site plan functions upto n start after
+    → IsPassing site plan functions other n start after
+passing_kept site plan functions upto other n start after kept is = record {
+  added = is.added;
+  grew = is.grew;
+  does = is.does;
+  first = is.first;
+  handles = is.handles;
+  unmailed = is.unmailed;
+  served = λ e. absurd (kept e);
+}

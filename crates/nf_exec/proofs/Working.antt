@@ -1,6 +1,7 @@
 -- A role at work: what a service, or a sample, leaves of it.
 use Rattle.std.proofs.Common.{◌≡◌, ℕ, zero, suc, ◌+◌, ◌-◌, ◌<◌, ◌≤◌, Bool, true, false, inl, inr, List, [], ◌∷◌, ◌++◌, length, Some, None, Option, refl, sym, ap, ◌∙◌, subst, arith, append-nil, append_assoc}
-use Rattle.std.specs.Prelude.{◌≢◌, ◌⊎◌, ◌==◌, ◌^◌, min, slice_get, slice_set, slice_index_or}
+use Rattle.std.specs.Prelude.{is_some, ◌≢◌, ◌⊎◌, ◌==◌, ◌^◌, min, slice_get, slice_set, slice_index_or}
+use Rattle.std.proofs.lemmas.Bool.{true≢false}
 use Rattle.std.proofs.lemmas.Bool.Decides.{eqb_tells}
 use Rattle.std.proofs.lemmas.List.{get_or-set_other, length-set}
 use Rattle.std.proofs.lemmas.Grind.{get_or-set_at}
@@ -34,7 +35,7 @@ use Rattle.nf_exec.specs.declared.station.Station.{Station}
 use Rattle.nf_exec.specs.declared.turn.Turn.{Turn}
 use Rattle.nf_exec.specs.declared.turn.Turn.TheVariants.{Handled, Barred, Dry, Wanting}
 use Rattle.nf_exec.specs.Handing.{HasGoneOn}
-use Rattle.nf_exec.specs.Roles.{IsAtWork, IsKept, KeepsOthers, times_are}
+use Rattle.nf_exec.specs.Roles.{IsAtWork, IsKept, KeepsOthers, counts_upto, times_are}
 use Rattle.nf_exec.specs.Roles.IsKept.{NoneKept, OneKept}
 use Rattle.nf_exec.specs.Serving.{IsService, IsTimedBy, is_barred, kept_by, sample_acts}
 use Rattle.nf_exec.specs.Stations.{AreFunctionsOf, AreStations, IsStation, IsToHandle, Stands, functions_of}
@@ -200,6 +201,7 @@ module _ {N : Type 0} (acts : N → Acts) (state : N → Tree) (site : BoardView
         subst (λ (z : ℕ × List FnId). AreFunctionsOf site.layout z.0 z.1) (λ i. (sym role_is i, sym kept_functions i))
         work.functions;
     stations = record { each = each_station };
+    few = omega (arith, work.few, long);
     units =
         ap (λ (xs : List N). length xs) units_are ∙ length-set role.units.items at u_now ∙ work.units ∙ sym long;
     began = ap (λ (xs : List N). length xs) began_is ∙ work.began ∙ sym long;
@@ -298,3 +300,54 @@ set_there xs at now less = (omega (arith, less, length-set xs at now), set_at xs
     set_at [] at now less = absurd (omega arith)
     set_at (x ∷ xs) zero now less = refl
     set_at (x ∷ xs) (suc at) now less = set_at xs at now (omega arith)
+
+-- Stations behind a service
+
+pub item_there : {A : Type 0} (xs : List A) (i : ℕ) → i < length xs → (x : A) × (x ≡ slice_index_or xs i x)
+item_there [] i less = absurd (omega arith)
+item_there (x ∷ xs) zero less = (x, refl)
+item_there (x ∷ xs) (suc i) less = item_there xs i (omega arith)
+
+pub as_long : (stations now : List Station) → functions_of now ≡ functions_of stations
+    → length now ≡ length stations
+as_long stations now same =
+    sym (functions_long now) ∙ ap (λ (fs : List FnId). length fs) same ∙ functions_long stations
+
+pub counts_next : (stations now : List Station) (at k : ℕ) → at < length stations → KeepsOthers at stations now
+    → counts_upto 1025 stations
+    → ((s t : Station) → s ≡ slice_index_or stations at s → t ≡ slice_index_or now at t → t.count ≡ s.count + k)
+    → ((s : Station) → s ≡ slice_index_or stations at s → s.count ≤ 1) → k ≤ 1024 → counts_upto 1025 now
+counts_next stations now at k less keeps were count one few i t below t_is = at_place (eqb_tells i at)
+  where
+    at_place : (((i == at) ≡ true) × (i ≡ at)) ⊎ (((i == at) ≡ false) × (i ≢ at)) → t.count ≤ 1025
+    at_place (inl met) =
+        let s = item_there stations at less in
+        let sum = count s.0 t s.1 (t_is ∙ ap (λ j. slice_index_or now j t) met.1) in
+        let small = one s.0 s.1 in
+        omega (arith, sum, small, few)
+    at_place (inr unmet) =
+        let under : i < length stations = omega (arith, below, as_long stations now keeps.functions) in
+        were i t under (keeps.others i t under unmet.1 t_is)
+
+pub ahead_next : (stations now : List Station) (at : ℕ) → KeepsOthers at stations now
+    → ((i : ℕ) (s : Station) → at ≤ i → i < length stations → s ≡ slice_index_or stations i s → s.count ≤ 1)
+    → (i : ℕ) (s : Station) → at + 1 ≤ i → i < length now → s ≡ slice_index_or now i s → s.count ≤ 1
+ahead_next stations now at keeps were i s above below s_is =
+    let under : i < length stations = omega (arith, below, as_long stations now keeps.functions) in
+    were i s (omega (arith, above)) under (keeps.others i s under (λ e. absurd (omega (arith, above, e))) s_is)
+
+pub more_counts : (few more : ℕ) (stations : List Station) → few ≤ more → counts_upto few stations
+    → counts_upto more stations
+more_counts few more stations less counts i s below s_is = omega (arith, less, counts i s below s_is)
+
+-- Kept or not
+
+pub kept_some : (stations : List Station) (kept : Option Kept) (hand : Option Hand) → IsKept stations kept hand
+    → is_some kept ≡ true → hand ≡ None → ⊥
+kept_some stations kept hand NoneKept some e = absurd (true≢false (sym some))
+kept_some stations kept hand (OneKept one s parcel less at) some e = cc
+
+pub kept_free : (stations : List Station) (kept : Option Kept) (hand : Option Hand) → IsKept stations kept hand
+    → is_some kept ≡ false → hand ≡ None
+kept_free stations kept hand NoneKept free = refl
+kept_free stations kept hand (OneKept one s parcel less at) free = absurd (true≢false free)

@@ -2,6 +2,7 @@
 use Rattle.std.specs.Prelude.{ℕ, ◌≡◌, ◌≢◌, ◌+◌, ◌*◌, ◌^◌, ◌<◌, ◌≤◌, ◌⊎◌, nat_lt, Bool, true, false, List, [], ◌∷◌, ◌++◌, length, slice_index_or, slice_get, Option, Some, None}
 use Rattle.onvm_base.specs.declared.ids.FnId.{FnId}
 use Rattle.onvm_base.specs.declared.ids.RingId.TheVariants.{Lane, Output, Mail}
+use Rattle.onvm_base.specs.declared.limits.TheConstants.{MAX_FUNCTIONS}
 use Rattle.onvm_base.specs.declared.plan.Plan.{Plan}
 use Rattle.onvm_core.specs.declared.entry.Entry.{Entry}
 use Rattle.onvm_core.specs.declared.parcel.Parcel.{Parcel}
@@ -81,6 +82,7 @@ module _ {N : Type 0} (acts : N → Acts) (state : N → Tree) where
     pub kind : kind_of site.layout token.role ≡ Handles
     pub functions : AreFunctionsOf site.layout token.role (functions_of role.stations.items)
     pub stations : AreStations site role.stations.items token
+    pub few : length role.stations.items ≤ MAX_FUNCTIONS
     pub units : length role.units.items ≡ length role.stations.items
     pub began : length role.began.value.items ≡ length role.stations.items
     -- each unit went through its function's journal

@@ -1,5 +1,6 @@
 //! A core's role.
 ghost use Rattle.std.specs.Prelude.{◌≡◌, ◌≢◌, ◌<◌, ◌≤◌, ◌+◌, ◌^◌, ℕ, List, Bool, not, length, slice_index_or, IfOk, OnErr, None};
+ghost use Rattle.onvm_base.specs.declared.limits.TheConstants.{MAX_BUDGET};
 ghost use Rattle.onvm_core.specs.declared.entry.Entry.{Entry};
 ghost use Rattle.onvm_core.specs.Handling.{core_hand};
 ghost use Rattle.onvm_core.specs.Layouts.{IsLayoutOf};
@@ -108,6 +109,7 @@ impl<N: NetFunction> CoreRole<N> {
         requires times { times_are (C.may_span clock.now) plan.now self.old.stations.items }
         ensures served { (station : StationView) → station ≡ slice_index_or self.old.stations.items at station
             → IsService board.now plan.now station.function result.handled result.last token.old token.new }
+        ensures few { result.handled ≤ MAX_BUDGET }
         ensures count { (station now : StationView) → station ≡ slice_index_or self.old.stations.items at station
             → now ≡ slice_index_or self.new.stations.items at now → now.count ≡ station.count + result.handled }
         ensures times { times_are (C.may_span clock.now) plan.now self.new.stations.items }
