@@ -1,6 +1,7 @@
 pub mod Doing
 pub mod Elsewhere
 pub mod Empties
+pub mod Mailing
 pub mod Passing
 pub mod Searching
 pub mod Servings
