@@ -1,8 +1,10 @@
 pub mod Doing
 pub mod Elsewhere
 pub mod Empties
+pub mod Keeping
 pub mod Mailing
 pub mod Passing
+pub mod Promising
 pub mod Searching
 pub mod Servings
 pub mod Stationing

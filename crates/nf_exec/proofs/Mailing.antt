@@ -119,7 +119,7 @@ sample_stands layout f count time lost before after grew is =
           };
     }
 
-set_same : {A : Type 0} (xs : List A) (at : ℕ) (x : A) → at < length xs → x ≡ slice_index_or xs at x
+pub set_same : {A : Type 0} (xs : List A) (at : ℕ) (x : A) → at < length xs → x ≡ slice_index_or xs at x
     → xs ≡ slice_set xs at x
 set_same [] at x less is = absurd (omega arith)
 set_same (y ∷ ys) zero x less is = ap (λ z. z ∷ ys) (sym is)
