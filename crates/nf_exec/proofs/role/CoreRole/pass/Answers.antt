@@ -1,35 +1,65 @@
-use Rattle.std.proofs.Common.{rules, ◌≡◌, ◌≢◌, ◌<◌, ◌≤◌, ◌+◌, ◌^◌, ℕ, List, Bool, not, length, slice_index_or, IfOk, OnErr, None, ◌-◌, ◌*◌, ◌/◌, ◌%◌, true, false, nat_eq, nat_lt, [], ◌∷◌, ◌++◌, slice_set, bit_and, bit_or, Fits, w8, w32, w64, Bor, MutBor}
-use Rattle.onvm_base.specs.declared.limits.TheConstants.{MAX_BUDGET}
-use Rattle.onvm_core.specs.declared.entry.Entry.{Entry}
-use Rattle.onvm_core.specs.Handling.{core_hand}
-use Rattle.onvm_core.specs.Layouts.{IsLayoutOf}
-use Rattle.onvm_board.specs.Tokens.{TokenView, grown}
-use Rattle.onvm_promises.specs.declared.pass.Pass.TheVariants.{Stopped}
-use Rattle.onvm_promises.specs.Answers.{Tells, is_complete}
-use Rattle.onvm_promises.specs.Roles.{IsCorePromise, setting_of}
-use Rattle.onvm_promises.specs.Sampling.{AreTimed}
-use Rattle.nf_exec.specs.declared.station.Station.{Station as StationView}
-use Rattle.nf_exec.specs.Roles.{HasMailed, IsAtWork, IsCoreRole, IsPassing, KeepsOthers, acts_of, counted, counts_upto, start_of, state_of, times_are}
-use Rattle.nf_exec.specs.Serving.{IsService, sample_acts}
+use Rattle.std.proofs.Common.{◌≡◌, ℕ, ◌+◌, ◌∙◌, not, refl, sym, ap, subst, arith, List, length}
+use Rattle.onvm_base.specs.declared.ids.FnId.{FnId}
+use Rattle.nf_exec.specs.Roles.{IsPassing}
 use Rattle.nf_exec.specs.Stations.{functions_of}
+use Rattle.nf_exec.proofs.Promising.{promise, role_kept, wanting_promise, wanting_role}
+use Rattle.nf_exec.proofs.Working.{as_long}
 use Rattle.nf_exec.proofs.role.CoreRole.pass.Goals as goal
 
--- src/role.rt:228:13
 pub returns-in_default-clause-promise : goal.returns-in_default-clause-promise
-returns-in_default-clause-promise g c = ?
+returns-in_default-clause-promise g c entries =
+    wanting_promise g.N.NetFunction.acts g.N.NetFunction.state (g.C.Clock.may_span c.args.clock.now) c.args.board.now
+    c.args.plan.now c.args.token.now c.handle_kept.new.token c.args.self.now c.handle_kept.new.self
+    c.in_default.ensures.unchanged c.requires.role c.requires.timed c.handle_kept.ensures.work
+    c.handle_kept.ensures.functions c.handle_kept.ensures.began entries
 
--- src/role.rt:228:13
 pub returns-in_default-clause-role : goal.returns-in_default-clause-role
-returns-in_default-clause-role g c = ?
+returns-in_default-clause-role g c =
+    wanting_role g.N.NetFunction.acts g.N.NetFunction.state c.args.board.now c.args.plan.now c.args.token.now
+    c.handle_kept.new.token c.args.self.now c.handle_kept.new.self c.in_default.ensures.unchanged c.requires.role
+    c.handle_kept.ensures.work
 
--- src/role.rt:231:9
 pub mail_all-requires-clause-times : goal.mail_all-requires-clause-times
-mail_all-requires-clause-times g c = ?
+mail_all-requires-clause-times g c i s less s_is some =
+    let is = c.serve_all.ensures.times i s less s_is some in
+    omega (arith, is.2)
 
--- src/role.rt:210:5
 pub returns-clause-promise : goal.returns-clause-promise
-returns-clause-promise g c = ?
+returns-clause-promise g c entries =
+    let site = c.args.board.now in
+    let plan = c.args.plan.now in
+    let kept = c.handle_kept.ensures in
+    let served = c.serve_all.ensures in
+    let n : ℕ = c.in-Ok.first + c.serve_all.result in
+    let long = as_long c.args.self.now.stations.items c.handle_kept.new.self.stations.items kept.functions in
+    promise g.N.NetFunction.acts g.N.NetFunction.state (g.C.Clock.may_span c.args.clock.now) site plan c.args.token.now
+    c.serve_all.new.token c.mail_all.new.token c.args.self.now c.serve_all.new.self c.mail_all.new.self n
+    c.answer_of.result c.requires.role c.requires.timed
+    (subst (λ (z : List FnId × ℕ). IsPassing site plan z.0 z.1 n c.args.token.now c.serve_all.new.token)
+    (λ i. (kept.functions i, long i))
+    (served.passing c.args.token.now c.in-Ok.first
+    (subst (λ (fs : List FnId). IsPassing site plan fs 0 c.in-Ok.first c.args.token.now c.handle_kept.new.token)
+    (sym kept.functions) c.in-Ok.ensures.passing)))
+    served.work served.times (served.functions ∙ kept.functions) c.mail_all.ensures.mailed c.mail_all.ensures.counts
+    c.mail_all.ensures.work c.mail_all.ensures.functions (c.mail_all.ensures.units.1 ∙ served.began ∙ kept.began)
+    (c.answer_of.ensures.whole ∙ ap not c.is_some.ensures) c.answer_of.ensures.tells entries
 
--- src/role.rt:210:5
 pub returns-clause-role : goal.returns-clause-role
-returns-clause-role g c = ?
+returns-clause-role g c =
+    let site = c.args.board.now in
+    let plan = c.args.plan.now in
+    let kept = c.handle_kept.ensures in
+    let served = c.serve_all.ensures in
+    let n : ℕ = c.in-Ok.first + c.serve_all.result in
+    let long = as_long c.args.self.now.stations.items c.handle_kept.new.self.stations.items kept.functions in
+    role_kept g.N.NetFunction.acts g.N.NetFunction.state (g.C.Clock.may_span c.args.clock.now) site plan c.args.token.now
+    c.serve_all.new.token c.mail_all.new.token c.args.self.now c.serve_all.new.self c.mail_all.new.self n
+    c.answer_of.result c.requires.role c.requires.timed
+    (subst (λ (z : List FnId × ℕ). IsPassing site plan z.0 z.1 n c.args.token.now c.serve_all.new.token)
+    (λ i. (kept.functions i, long i))
+    (served.passing c.args.token.now c.in-Ok.first
+    (subst (λ (fs : List FnId). IsPassing site plan fs 0 c.in-Ok.first c.args.token.now c.handle_kept.new.token)
+    (sym kept.functions) c.in-Ok.ensures.passing)))
+    served.work served.times (served.functions ∙ kept.functions) c.mail_all.ensures.mailed c.mail_all.ensures.counts
+    c.mail_all.ensures.work c.mail_all.ensures.functions (c.mail_all.ensures.units.1 ∙ served.began ∙ kept.began)
+    (c.answer_of.ensures.whole ∙ ap not c.is_some.ensures) c.answer_of.ensures.tells
