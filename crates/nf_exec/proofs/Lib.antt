@@ -5,6 +5,7 @@ pub mod Keeping
 pub mod Mailing
 pub mod Passing
 pub mod Promising
+pub mod Rooming
 pub mod Searching
 pub mod Servings
 pub mod Stationing

@@ -8,11 +8,13 @@
 
 mod budget;
 mod role;
+mod room;
 mod slot;
 mod station;
 mod turn;
 
 pub use budget::budget_of;
 pub use role::{CoreRole, Kept};
+pub use room::{CoreKept, CoreRoom};
 pub use station::Station;
 pub use turn::{Service, Turn};
