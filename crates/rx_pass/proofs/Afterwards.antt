@@ -47,7 +47,7 @@ knows_same setting port moment log keeps keeps' feeder feeder' done done' same r
     let Far : FeederKeeps → Type 0 = λ k. IsReceiverSoFar setting port moment log k in
     let Phase : ℕ → Type 0 = λ n. receive_phase setting log ≡ Between n in
     let Marks : FeederView → Type 0 = λ f.
-        AreMarksOf setting port (aged_by setting port moment log) f.marks (length f.posts) log in
+    AreMarksOf setting port (aged_by setting port moment log) f.marks (length f.posts) log in
     let Moments : FeederView → Type 0 = λ f. KeepsMoments moment f log in
     record {
       so_far = subst Far (sym same) is.so_far;

@@ -116,7 +116,7 @@ module _ {I : Type 0} (site : BoardView) (plan : Plan) (now : ℕ) (old ready ne
       counted sound =
           let burst : setting.plan.burst ≡ plan.burst = ap (λ (p : Plan). p.burst) fits.plan_is in
           let either : (waits ≡ plan.burst) ⊎ (ready.intake.standing.ended ≡ true) =
-          elim full [ | inl most ↦ inl most | inr stopped ↦ inr (ends_by ready.intake.standing stopped sound) ] in
+          elim full [ inl most ↦ inl most | inr stopped ↦ inr (ends_by ready.intake.standing stopped sound) ] in
           ended_at
           ∙ count_is site.layout plan a.role waits plan.burst ready.intake.standing.pulled ready.intake.standing.ended setting
           fits_ready some few either

@@ -32,7 +32,7 @@ next_known layout plan port pulled earlier frame rest ended setting done fits sp
     let e : Entry = entry_of plan own (done + 1) frame in
     let P : List Frame → Type 0 = λ fs. slice_get (entries_from plan own 0 fs) done ≡ Some e in
     let Q : ℕ → Type 0 = λ n. slice_get (entries_from plan own 0 (earlier ++ frame ∷ rest)) n
-        ≡ Some (entry_of plan own (n + 1) frame) in
+    ≡ Some (entry_of plan own (n + 1) frame) in
     let zero_more : 0 + length earlier + 1 ≡ length earlier + 1 = omega arith in
     let at : Q (length earlier) =
     entries_at plan own 0 earlier frame rest ∙ ap (λ (n : ℕ). Some (entry_of plan own n frame)) zero_more in

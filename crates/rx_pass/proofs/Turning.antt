@@ -229,9 +229,10 @@ module _ (setting : Setting) (port done : ℕ) (e : Entry) (next : entry_after s
 
 pub none_steps : (port : ℕ) (layout : Layout) (frame : FrameId)
     → AreBlockSteps (last_look layout port frame ∷ zero_looks port (last_index layout))
-none_steps port layout frame =
-    (ASeek (record { 0 = port }) (last_index layout) 0 (Some (record { frame = frame; outcome = PoolEmpty })),
-    zeros_are_steps port (last_index layout))
+none_steps port layout frame = (
+  ASeek (record { 0 = port }) (last_index layout) 0 (Some (record { frame = frame; outcome = PoolEmpty })),
+  zeros_are_steps port (last_index layout),
+)
 
 pub none_records : (port : ℕ) (layout : Layout) (frame : FrameId)
     → kept_now records_by 0 (last_look layout port frame ∷ zero_looks port (last_index layout))

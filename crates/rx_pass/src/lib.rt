@@ -10,6 +10,8 @@ mod inlet;
 mod kept;
 mod role;
 mod room;
+#[cfg(test)]
+mod tests;
 
 pub use role::RxRole;
 pub use room::{RxKept, RxRoom};

@@ -211,8 +211,7 @@ impl<I> RxRole<I> {
         'frames: while let Some(frame) = self.waiting.pop_front() {
             let number = pulled - self.waiting.len() as u32;
             let entry = self.entry_of(plan, frame, number);
-            self.inlet
-                .receive(board, token, plan, registry, entry, now);
+            self.inlet.receive(board, token, plan, registry, entry, now);
         }
         count
     }

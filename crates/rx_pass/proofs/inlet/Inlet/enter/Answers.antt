@@ -37,14 +37,14 @@ returns-in-To-clause-turn c = λ setting done knows.
     let new = c.pass_on.new.self in
     let Grew : TokenView → Type 0 = λ t. after ≡ grown (went_on (Lane f t.role) buf (parcel_in t) went) [] t in
     let Told_ : TokenView → Type 0 = λ t.
-        Told (went_on (Lane f t.role) buf (parcel_in t) went) (outcomes_of old.kept) (outcomes_of new.kept) in
+    Told (went_on (Lane f t.role) buf (parcel_in t) went) (outcomes_of old.kept) (outcomes_of new.kept) in
     let Noted : TokenView → Type 0 = λ t.
-        HasNoted c.args.now (went_on (Lane f t.role) buf (parcel_in t) went) t.log old.feeder new.feeder in
+    HasNoted c.args.now (went_on (Lane f t.role) buf (parcel_in t) went) t.log old.feeder new.feeder in
     let GrewBy : Parcel → Type 0 = λ p. after ≡ grown (went_on (Lane f before.role) buf p went) [] before in
     let ToldBy : Parcel → Type 0 = λ p.
-        Told (went_on (Lane f before.role) buf p went) (outcomes_of old.kept) (outcomes_of new.kept) in
+    Told (went_on (Lane f before.role) buf p went) (outcomes_of old.kept) (outcomes_of new.kept) in
     let NotedBy : Parcel → Type 0 = λ p.
-        HasNoted c.args.now (went_on (Lane f before.role) buf p went) before.log old.feeder new.feeder in
+    HasNoted c.args.now (went_on (Lane f before.role) buf p went) before.log old.feeder new.feeder in
     went_turn setting c.args.plan.now before.role c.args.now done c.args.entry buf f c.in-To.field-1 went before after old new
     knows.plan_is knows.next (sym c.enter-next.ensures ∙ c.in-To.is)
     (subst GrewBy c.parcel_of.ensures (subst Grew c.lend.ensures.new c.pass_on.ensures.grew))
@@ -60,10 +60,10 @@ returns-in-Leave-clause-turn c = λ setting done knows.
     let old = c.args.self.now in
     let Grew : TokenView → Type 0 = λ t. after ≡ grown (Give buf (Sent q) (parcel_in t) ∷ []) [] t in
     let Told_ : TokenView → Type 0 = λ t.
-        Told (Give buf (Sent q) (parcel_in t) ∷ []) (outcomes_of old.kept) (outcomes_of c.leave.new.kept) in
+    Told (Give buf (Sent q) (parcel_in t) ∷ []) (outcomes_of old.kept) (outcomes_of c.leave.new.kept) in
     let GrewBy : Parcel → Type 0 = λ p. after ≡ grown (Give buf (Sent q) p ∷ []) [] before in
     let ToldBy : Parcel → Type 0 = λ p.
-        Told (Give buf (Sent q) p ∷ []) (outcomes_of old.kept) (outcomes_of c.leave.new.kept) in
+    Told (Give buf (Sent q) p ∷ []) (outcomes_of old.kept) (outcomes_of c.leave.new.kept) in
     left_turn setting c.args.plan.now before.role c.args.now done c.args.entry buf q before after old _
     knows.plan_is knows.next (sym c.enter-next.ensures ∙ c.in-Leave.is)
     (subst GrewBy c.parcel_of.ensures (subst Grew c.lend.ensures.new c.leave.ensures.grew))

@@ -36,7 +36,7 @@ returns-then-is_err-clause-in_order g c = λ setting moment fits is.
 pub returns-then-is_some-clause-promise : goal.returns-then-is_some-clause-promise
 returns-then-is_some-clause-promise g c = λ setting moment fits is.
     let full : (length (waiting_of c.prepare.new.self) ≡ c.args.plan.now.burst)
-        ⊎ HasStopped c.prepare.new.self.intake.standing = search rules in
+    ⊎ HasStopped c.prepare.new.self.intake.standing = search rules in
     stopped_promise c.args.board.now c.args.plan.now c.args.now c.args.self.now c.prepare.new.self c.receive_all-received.new.self _
     c.marks_pass.new.feeder c.args.token.now c.marks_pass.new.token c.receive_all-received.new.token c.requires.role
     c.prepare.ensures.feeder c.prepare.ensures.kept c.prepare.ensures.done c.prepare.ensures.queue c.prepare.ensures.few
@@ -46,7 +46,7 @@ returns-then-is_some-clause-promise g c = λ setting moment fits is.
 pub returns-then-is_some-clause-in_order : goal.returns-then-is_some-clause-in_order
 returns-then-is_some-clause-in_order g c = λ setting moment fits is.
     let full : (length (waiting_of c.prepare.new.self) ≡ c.args.plan.now.burst)
-        ⊎ HasStopped c.prepare.new.self.intake.standing = search rules in
+    ⊎ HasStopped c.prepare.new.self.intake.standing = search rules in
     order_after c.args.board.now c.args.plan.now c.args.now c.args.self.now c.prepare.new.self c.receive_all-received.new.self _
     c.marks_pass.new.feeder c.args.token.now c.marks_pass.new.token c.receive_all-received.new.token c.requires.role
     c.prepare.ensures.feeder c.prepare.ensures.kept c.prepare.ensures.done c.prepare.ensures.queue c.prepare.ensures.few
@@ -56,7 +56,7 @@ returns-then-is_some-clause-in_order g c = λ setting moment fits is.
 pub returns-then-is_some-clause-role : goal.returns-then-is_some-clause-role
 returns-then-is_some-clause-role g c =
     let full : (length (waiting_of c.prepare.new.self) ≡ c.args.plan.now.burst)
-        ⊎ HasStopped c.prepare.new.self.intake.standing = search rules in
+    ⊎ HasStopped c.prepare.new.self.intake.standing = search rules in
     role_after c.args.board.now c.args.plan.now c.args.token.now c.receive_all-received.new.token c.args.self.now
     c.prepare.new.self c.receive_all-received.new.self c.marks_pass.new.feeder c.requires.role c.prepare.ensures.feeder
     c.prepare.ensures.ends.2 c.prepare.ensures.frames c.marks_pass.ensures.same
@@ -76,7 +76,7 @@ returns-then-received-eq0-clause-promise g c = λ setting moment fits is.
     let waits = sym c.receive_all-received.ensures.count ∙ c.if-received-eq0.true in
     let sound : c.receive_all-received.new.self.intake.standing.fault ≡ None = search rules in
     let full : (length (waiting_of c.prepare.new.self) ≡ c.args.plan.now.burst)
-        ⊎ HasStopped c.prepare.new.self.intake.standing = search rules in
+    ⊎ HasStopped c.prepare.new.self.intake.standing = search rules in
     idle_promise c.args.board.now c.args.plan.now c.args.now c.args.self.now c.prepare.new.self c.receive_all-received.new.self _
     c.marks_pass.new.feeder c.args.token.now c.marks_pass.new.token c.receive_all-received.new.token c.requires.role
     c.prepare.ensures.feeder c.prepare.ensures.kept c.prepare.ensures.done c.prepare.ensures.queue c.prepare.ensures.few
@@ -86,7 +86,7 @@ returns-then-received-eq0-clause-promise g c = λ setting moment fits is.
 pub returns-then-received-eq0-clause-in_order : goal.returns-then-received-eq0-clause-in_order
 returns-then-received-eq0-clause-in_order g c = λ setting moment fits is.
     let full : (length (waiting_of c.prepare.new.self) ≡ c.args.plan.now.burst)
-        ⊎ HasStopped c.prepare.new.self.intake.standing = search rules in
+    ⊎ HasStopped c.prepare.new.self.intake.standing = search rules in
     order_after c.args.board.now c.args.plan.now c.args.now c.args.self.now c.prepare.new.self c.receive_all-received.new.self _
     c.marks_pass.new.feeder c.args.token.now c.marks_pass.new.token c.receive_all-received.new.token c.requires.role
     c.prepare.ensures.feeder c.prepare.ensures.kept c.prepare.ensures.done c.prepare.ensures.queue c.prepare.ensures.few
@@ -96,7 +96,7 @@ returns-then-received-eq0-clause-in_order g c = λ setting moment fits is.
 pub returns-then-received-eq0-clause-role : goal.returns-then-received-eq0-clause-role
 returns-then-received-eq0-clause-role g c =
     let full : (length (waiting_of c.prepare.new.self) ≡ c.args.plan.now.burst)
-        ⊎ HasStopped c.prepare.new.self.intake.standing = search rules in
+    ⊎ HasStopped c.prepare.new.self.intake.standing = search rules in
     role_after c.args.board.now c.args.plan.now c.args.token.now c.receive_all-received.new.token c.args.self.now
     c.prepare.new.self c.receive_all-received.new.self c.marks_pass.new.feeder c.requires.role c.prepare.ensures.feeder
     c.prepare.ensures.ends.2 c.prepare.ensures.frames c.marks_pass.ensures.same
@@ -118,7 +118,7 @@ returns-else-received-eq0-clause-promise g c = λ setting moment fits is.
     let some : 0 < received = omega (arith, c.if-received-eq0.false) in
     let sound : c.receive_all-received.new.self.intake.standing.fault ≡ None = search rules in
     let full : (length (waiting_of c.prepare.new.self) ≡ c.args.plan.now.burst)
-        ⊎ HasStopped c.prepare.new.self.intake.standing = search rules in
+    ⊎ HasStopped c.prepare.new.self.intake.standing = search rules in
     did_promise c.args.board.now c.args.plan.now c.args.now c.args.self.now c.prepare.new.self c.receive_all-received.new.self _
     c.marks_pass.new.feeder c.args.token.now c.marks_pass.new.token c.receive_all-received.new.token c.requires.role
     c.prepare.ensures.feeder c.prepare.ensures.kept c.prepare.ensures.done c.prepare.ensures.queue c.prepare.ensures.few
@@ -128,7 +128,7 @@ returns-else-received-eq0-clause-promise g c = λ setting moment fits is.
 pub returns-else-received-eq0-clause-in_order : goal.returns-else-received-eq0-clause-in_order
 returns-else-received-eq0-clause-in_order g c = λ setting moment fits is.
     let full : (length (waiting_of c.prepare.new.self) ≡ c.args.plan.now.burst)
-        ⊎ HasStopped c.prepare.new.self.intake.standing = search rules in
+    ⊎ HasStopped c.prepare.new.self.intake.standing = search rules in
     order_after c.args.board.now c.args.plan.now c.args.now c.args.self.now c.prepare.new.self c.receive_all-received.new.self _
     c.marks_pass.new.feeder c.args.token.now c.marks_pass.new.token c.receive_all-received.new.token c.requires.role
     c.prepare.ensures.feeder c.prepare.ensures.kept c.prepare.ensures.done c.prepare.ensures.queue c.prepare.ensures.few
@@ -138,7 +138,7 @@ returns-else-received-eq0-clause-in_order g c = λ setting moment fits is.
 pub returns-else-received-eq0-clause-role : goal.returns-else-received-eq0-clause-role
 returns-else-received-eq0-clause-role g c =
     let full : (length (waiting_of c.prepare.new.self) ≡ c.args.plan.now.burst)
-        ⊎ HasStopped c.prepare.new.self.intake.standing = search rules in
+    ⊎ HasStopped c.prepare.new.self.intake.standing = search rules in
     role_after c.args.board.now c.args.plan.now c.args.token.now c.receive_all-received.new.token c.args.self.now
     c.prepare.new.self c.receive_all-received.new.self c.marks_pass.new.feeder c.requires.role c.prepare.ensures.feeder
     c.prepare.ensures.ends.2 c.prepare.ensures.frames c.marks_pass.ensures.same

@@ -55,11 +55,11 @@ frames-preserved g c =
           record { layout_is = fits.layout_is; plan_is = fits.plan_is; next = next ∙ ap (λ (e : Entry). Some e) same } in
           let Know : ℕ → Type 0 = λ r. Knows c.args.board.now.layout c.args.plan.now r done c.entry_of-entry.result setting in
           let Turn : ℕ → Type 0 = λ r. IsTurn setting r c.args.now (Between done) (Between (done + 1)) c.frames.token
-              c.receive.new.token mid.inlet c.receive.new.self in
+          c.receive.new.token mid.inlet c.receive.new.self in
           let From : Inlet → Type 0 = λ i. IsTurn setting role c.args.now (Between done) (Between (done + 1)) c.frames.token
-              c.receive.new.token i c.receive.new.self in
+          c.receive.new.token i c.receive.new.self in
           let Upto : ℕ → Type 0 = λ n. IsTurn setting role c.args.now (Between done) (Between n) c.frames.token
-              c.receive.new.token was.inlet c.receive.new.self in
+          c.receive.new.token was.inlet c.receive.new.self in
           let second : Upto (length mid.intake.standing.pulled - length mid.waiting.items) =
           subst Upto after (subst From inlet
           (subst Turn kept.role (c.receive.ensures.turn setting done (subst Know (sym kept.role) knows)))) in
