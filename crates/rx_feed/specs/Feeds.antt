@@ -29,16 +29,21 @@ standing_in kind.Nothing = no_standing
 standing_in (kind.Live source stream) = standing_of stream
 standing_in (kind.Made generator ended) = made_standing generator ended
 
+-- each frame was given, as many as a port takes at most
+abbrev pub IsAllGiven : Making → Type 0
+IsAllGiven g = (g.given ≡ g.count) × (g.count ≤ MAX_PORT_FRAMES)
+
 abbrev pub IsKind : {I : Type 0} → Kind I → Type 0
 IsKind kind.Nothing = Unit {0}
 IsKind (kind.Live source stream) = IsStream stream
-IsKind (kind.Made g ended) = (ended ≡ true → g.given ≡ g.count) × (g.given ≤ g.count)
+IsKind (kind.Made g ended) = ended ≡ true → IsAllGiven g
 
 -- what was pulled of a feed is its frames: the reading of what was taken, or those that are made
 abbrev pub IsPulledOf : {I : Type 0} → Option (Feed I) → Standing → Type 0
 IsPulledOf None s = s ≡ no_standing
 IsPulledOf (Some (feed.Live source)) s = IsStanding s
-IsPulledOf (Some (feed.Made g)) s = (s ≡ made_standing g s.ended) × (s.ended ≡ true → g.given ≡ g.count) × (g.given ≤ g.count)
+IsPulledOf (Some (feed.Made g)) s =
+    (s ≡ made_standing g s.ended) × (s.ended ≡ true → g.given ≡ g.count) × (g.given ≤ g.count) × (g.count ≤ MAX_PORT_FRAMES)
 
 -- since a moment, when these bytes were left and these takes had been made, just the bytes taken came of a live feed
 abbrev pub IsTakenFrom : {I : Type 0} → (I → Option (List ℕ)) → (I → Amounts) → Option (List ℕ) → Amounts → Option (Feed I)
@@ -64,11 +69,11 @@ most_left (Some (feed.Made g)) s = g.count - length s.pulled
 
 -- Before the first frame
 
--- a generator has given no frame
+-- a generator has given no frame, and gives at most as many as a port takes
 abbrev pub IsFreshFeed : {I : Type 0} → Option (Feed I) → Type 0
 IsFreshFeed None = Unit {0}
 IsFreshFeed (Some (feed.Live source)) = Unit {0}
-IsFreshFeed (Some (feed.Made g)) = g.given ≡ 0
+IsFreshFeed (Some (feed.Made g)) = (g.given ≡ 0) × (g.count ≤ MAX_PORT_FRAMES)
 
 abbrev pub fresh_standing : {I : Type 0} → Option (Feed I) → Standing
 fresh_standing None = no_standing

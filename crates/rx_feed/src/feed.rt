@@ -1,7 +1,8 @@
 //! What frames come from.
 ghost use Rattle.std.specs.Prelude.{◌≡◌, ◌≢◌, ◌⊎◌, ◌+◌, ◌<◌, ◌≤◌, ◌∷◌, ◌++◌, [], ℕ, List, Option, true, false, IfOk, IsSome, None, OnErr, OnOk, Ok, Some, length, option_to_list};
 ghost use Rattle.onvm_host.specs.Deeds.{Amounts};
-ghost use Rattle.rx_feed.specs.Feeds.{IsKind, IsTakenFrom, StaysFeed, feed_in, standing_in};
+ghost use Rattle.onvm_base.specs.declared.limits.TheConstants.{MAX_PORT_FRAMES};
+ghost use Rattle.rx_feed.specs.Feeds.{IsAllGiven, IsKind, IsPulledOf, IsTakenFrom, StaysFeed, feed_in, standing_in};
 ghost use Rattle.rx_feed.specs.Made.{made_frames};
 ghost use Rattle.rx_feed.specs.Standing.{HasStopped};
 
@@ -30,6 +31,7 @@ impl<I: Source> Kind<I> {
     pub(crate) fn next(&mut self, alloc: Global) -> Result<Option<Frame>, NoMemory>
         requires kind { IsKind self.old }
         ensures kind { IsKind self.new }
+        ensures frames { IsPulledOf (feed_in self.new) (standing_in self.new) }
         ensures frame { IfOk result (λ frame. (standing_in self.new).pulled
             ≡ (standing_in self.old).pulled ++ option_to_list frame) }
         ensures some { IfOk result (λ frame. IsSome frame → ¬ (HasStopped (standing_in self.new))) }
@@ -56,10 +58,9 @@ fn next_made(
     generator: &mut Generator,
     ended: &mut bool,
 ) -> Result<Option<Frame>, NoMemory>
-    requires ended { ended.old ≡ true → generator.old.given ≡ generator.old.count }
-    requires few { generator.old.given ≤ generator.old.count }
-    ensures ended { ended.new ≡ true → generator.new.given ≡ generator.new.count }
-    ensures few { generator.new.given ≤ generator.new.count }
+    requires ended { ended.old ≡ true → IsAllGiven generator.old }
+    ensures ended { ended.new ≡ true → IsAllGiven generator.new }
+    ensures few { (generator.new.given ≤ generator.new.count) × (generator.new.count ≤ MAX_PORT_FRAMES) }
     ensures frame { IfOk result (λ frame. made_frames generator.new.seed generator.new.given
         ≡ made_frames generator.old.seed generator.old.given ++ option_to_list frame) }
     ensures some { IfOk result (λ frame. IsSome frame → ended.new ≡ false) }

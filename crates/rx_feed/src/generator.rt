@@ -59,6 +59,7 @@ impl Generator {
         ensures ok { IfOk result (λ _. self.new ≡ (if nat_lt self.old.given self.old.count
             then record self.old { given = self.old.given + 1 } else self.old)) }
         ensures err { OnErr result (self.new ≡ self.old) }
+        ensures few { (self.new.given ≤ self.new.count) × (self.new.count ≤ MAX_PORT_FRAMES) }
     {
         if self.given == self.count {
             return Ok(None);
