@@ -1,5 +1,6 @@
 pub mod Accounts
 pub mod Endings
+pub mod Gathering
 pub mod Lists
 pub mod Moments
 pub mod SerialTicks

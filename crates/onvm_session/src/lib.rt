@@ -9,6 +9,8 @@
 #![tactic(auto)]
 
 pub mod laws;
+mod lists;
 mod surroundings;
 
+pub use lists::{Gathered, RunLists};
 pub use surroundings::Surroundings;
