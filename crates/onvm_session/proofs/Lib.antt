@@ -1,4 +1,5 @@
 pub mod Accounted
+pub mod Ascending
 pub mod Closing
 pub mod Done
 pub mod ExampleAccount
@@ -9,6 +10,7 @@ pub mod IdleRound
 pub mod IdleRun
 pub mod LastRound
 pub mod Leading
+pub mod Listing
 pub mod OverloadAccount
 pub mod OverloadCore
 pub mod OverloadPlan
@@ -22,14 +24,17 @@ pub mod Passing
 pub mod Peeling
 pub mod Phasing
 pub mod Places
+pub mod Quiet
 pub mod Reading
 pub mod Rounds
 pub mod Seating
 pub mod Serial
 pub mod SerialTicking
 pub mod Session
+pub mod SessionLists
 pub mod Starting
 pub mod Stepping
+pub mod Summing
 pub mod TickTurns
 pub mod Turning
 pub mod Weaving

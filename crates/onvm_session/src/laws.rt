@@ -12,6 +12,7 @@ ghost use Rattle.onvm_promises.specs.Answers.{is_complete};
 ghost use Rattle.onvm_promises.specs.Kept.{moment_then, records_by};
 ghost use Rattle.onvm_session.specs.Accounts.{IsAccounted, RunView};
 ghost use Rattle.onvm_session.specs.Endings.{Closes, HasLists, IsClosed, closing_moments};
+ghost use Rattle.onvm_session.specs.Gathering.{AreRunLists};
 ghost use Rattle.onvm_session.specs.Lists.{all_told};
 ghost use Rattle.onvm_session.specs.Moments.{moment_of_round, round_of_turn};
 ghost use Rattle.onvm_session.specs.Sessions.{AllTold, AreTicksKept, IsRolePass, IsRoleSoFar, IsSession, Keeps, OthersKeep, after_phase, after_turn, with_keeps, with_moment};
@@ -90,6 +91,21 @@ pub fn headline<S, W: Surroundings<S>>(world: &W)
         → all_told (λ told. true) records_by (closing_moments setting moments final now)
         run.final.logs (first_role setting.layout) ≡ frame_count setting
         → IsAccounted serial (W.may_tell world.now) (W.cost_may_take world.now) (W.acts world.now) start setting run }
+{}
+
+/// What a session's roles kept, put together, are the lists that the headline asks for.
+pub fn lists_of_roles<S, W: Surroundings<S>>(world: &W)
+    ensures { (serial : Bool) (start state : ℕ → S)
+        (setting : Setting) (moments : ℕ → ℕ → ℕ)
+        (first latest : ℕ) (final : FinalView) (keeps : ℕ → Keeps) (seen now : ℕ) (after : Log)
+        (kept : Keeps) (run : RunView) → IsLayout setting.layout → IsSetting setting
+        → IsSession serial (W.may_tell world.now) (W.acts world.now) start state
+        (W.cost_may_take world.now) setting moments first latest
+        final keeps
+        → Closes serial (W.may_tell world.now) setting moments first latest final keeps seen now after kept run
+        → IsClosed setting run
+        → AreRunLists setting.layout keeps run
+        → HasLists setting (closing_moments setting moments final now) run }
 {}
 
 /// Where one role at a time is split, the final view tells the order of all the roles' steps: so two
