@@ -1,5 +1,6 @@
 pub mod Accounted
 pub mod Ascending
+pub mod Boarding
 pub mod Closing
 pub mod Done
 pub mod ExampleAccount

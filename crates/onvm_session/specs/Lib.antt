@@ -1,4 +1,5 @@
 pub mod Accounts
+pub mod Boards
 pub mod Endings
 pub mod Gathering
 pub mod Lists

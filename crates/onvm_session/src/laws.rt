@@ -7,10 +7,14 @@ ghost use Rattle.onvm_core.specs.History.{History};
 ghost use Rattle.onvm_core.specs.Layouts.{IsLayout, first_role, tick_role};
 ghost use Rattle.onvm_core.specs.Logs.{Log, Setting};
 ghost use Rattle.onvm_core.specs.Settings.{IsSetting, frame_count};
+ghost use Rattle.onvm_core.specs.declared.step.Act.{Act};
+ghost use Rattle.onvm_board.specs.Closing.{ClosedView, IsEndOf};
+ghost use Rattle.onvm_board.specs.Tokens.{BoardView, EndsHistory, TokenView};
 ghost use Rattle.onvm_promises.specs.declared.pass.Pass.{Pass};
 ghost use Rattle.onvm_promises.specs.Answers.{is_complete};
 ghost use Rattle.onvm_promises.specs.Kept.{moment_then, records_by};
 ghost use Rattle.onvm_session.specs.Accounts.{IsAccounted, RunView};
+ghost use Rattle.onvm_session.specs.Boards.{token_after_turn, view_of_closed, view_of_token};
 ghost use Rattle.onvm_session.specs.Endings.{Closes, HasLists, IsClosed, closing_moments};
 ghost use Rattle.onvm_session.specs.Gathering.{AreRunLists};
 ghost use Rattle.onvm_session.specs.Lists.{all_told};
@@ -106,6 +110,25 @@ pub fn lists_of_roles<S, W: Surroundings<S>>(world: &W)
         → IsClosed setting run
         → AreRunLists setting.layout keeps run
         → HasLists setting (closing_moments setting moments final now) run }
+{}
+
+/// What a closed board keeps, and how many buffers it says are left, is what the headline asks of a
+/// closed board.
+pub fn a_closed_board_is_closed()
+    ensures { (setting : Setting) (closed : ClosedView) (past : History) (run : RunView)
+        → closed.layout ≡ setting.layout → IsEndOf closed past
+        → run.final ≡ view_of_closed closed → run.left ≡ closed.left
+        → IsClosed setting run }
+{}
+
+/// The first token's view after a turn is the view before with the turn's acts; and where a look
+/// told it that its logs are of one lawful history, its view is that history's.
+pub fn the_first_token_has_the_view()
+    ensures turn { (role seen : ℕ) (other token : TokenView) → other.role ≡ role → role < length token.logs
+        → view_of_token (token_after_turn role seen other token)
+        ≡ after_turn role seen other.log (view_of_token token) }
+    ensures settled { (site : BoardView) (act : Act) (token : TokenView) → EndsHistory site act token
+        → (past : History) × IsHistoryOf site.layout (view_of_token token) past }
 {}
 
 /// Where one role at a time is split, the final view tells the order of all the roles' steps: so two

@@ -11,6 +11,8 @@
 pub mod laws;
 mod lists;
 mod surroundings;
+#[cfg(test)]
+mod tests;
 
 pub use lists::{Gathered, RunLists};
 pub use surroundings::Surroundings;
