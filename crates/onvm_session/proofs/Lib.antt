@@ -27,6 +27,7 @@ pub mod Phasing
 pub mod Places
 pub mod Quiet
 pub mod Reading
+pub mod RoleLists
 pub mod Rounds
 pub mod Seating
 pub mod Serial

@@ -1,5 +1,5 @@
 -- The lists of a run, put together of what its roles kept.
-use Rattle.std.specs.Prelude.{ℕ, zero, suc, ◌≡◌, ◌+◌, ◌*◌, ◌^◌, List, [], ◌++◌, IsPermutation}
+use Rattle.std.specs.Prelude.{ℕ, zero, suc, ◌≡◌, ◌+◌, ◌*◌, ◌^◌, List, [], ◌++◌, length, IsPermutation}
 use Rattle.std.specs.List.Sorted.{IsNonDecreasingBy, IsStableByKey}
 use Rattle.std.specs.Ordering.{nat_cmp}
 use Rattle.onvm_base.specs.declared.ids.FrameId.{FrameId}
@@ -17,6 +17,11 @@ feeders_kept part keeps (suc n) = feeders_kept part keeps n ++ part (keeps n).fe
 -- what the first n cores counted
 abbrev pub cores_counted : (CoreKeeps → ℕ) → Layout → (ℕ → Keeps) → ℕ → ℕ
 cores_counted part layout keeps n = sum_below (λ core. part (keeps (layout.ports + layout.transmit + core)).core) n
+
+-- how many records the feeders kept
+abbrev pub recorded_count : Layout → (ℕ → Keeps) → ℕ
+recorded_count layout keeps =
+    sum_below (λ feeder. length (keeps feeder).feeder.outcomes.records) (layout.ports + layout.transmit)
 
 -- by port, then by number
 abbrev pub frame_key : FrameId → ℕ
