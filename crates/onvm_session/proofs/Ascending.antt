@@ -1,6 +1,6 @@
 -- A list in the order of its frames ascends, where each frame is there once at most.
-use Rattle.std.proofs.Common.{◌≡◌, ℕ, zero, suc, ◌+◌, ◌*◌, ◌<◌, ◌≤◌, Bool, true, false, inl, inr, List, [], ◌∷◌, ◌++◌, length, refl, sym, ◌∙◌, ap, subst, arith, Some, None}
-use Rattle.std.specs.Prelude.{◌==◌, ◌^◌, slice_get, IsPermutation}
+use Rattle.std.proofs.Common.{◌≡◌, ℕ, zero, suc, ◌+◌, ◌*◌, ◌<◌, ◌≤◌, Bool, true, inl, inr, List, [], ◌∷◌, refl, sym, ◌∙◌, ap, subst, arith, Some, None}
+use Rattle.std.specs.Prelude.{◌^◌, slice_get, IsPermutation}
 use Rattle.std.specs.List.{slice_index_or}
 use Rattle.std.specs.List.Sorted.{IsNonDecreasingBy}
 use Rattle.std.proofs.lemmas.Bool.{cases_order, eq-eqb}
@@ -12,7 +12,7 @@ use Rattle.onvm_core.specs.Frames.{same_frame}
 use Rattle.onvm_core.specs.Places.{how_many, one_if}
 use Rattle.onvm_core.proofs.PerFrame.{same_frame_self}
 use Rattle.onvm_session.specs.Gathering.{frame_key}
-use Rattle.onvm_session.specs.Lists.{Ascends, ComesBefore}
+use Rattle.onvm_session.specs.Lists.{Ascends}
 
 pub many_permuted : {A : Type 0} (test : A → Bool) (xs ys : List A) → IsPermutation xs ys
     → how_many test ys ≡ how_many test xs

@@ -8,10 +8,10 @@ use Rattle.onvm_core.specs.declared.step.Act.TheVariants.{Join}
 use Rattle.onvm_core.proofs.Lists.{if_met, if_unmet}
 use Rattle.onvm_core.specs.History.{History}
 use Rattle.onvm_core.specs.Layouts.{first_role}
-use Rattle.onvm_core.specs.Logs.{Setting, Log, log_of}
+use Rattle.onvm_core.specs.Logs.{Setting, Log}
 use Rattle.onvm_board.specs.Closing.{ClosedView, IsEndOf, away_count}
 use Rattle.onvm_board.specs.Rule.{count_after as board_count_after, join_counts as board_join_counts}
-use Rattle.onvm_board.specs.Tokens.{AreLogsOf, TokenView, logs_of}
+use Rattle.onvm_board.specs.Tokens.{AreLogsOf, TokenView}
 use Rattle.onvm_session.specs.Accounts.{RunView}
 use Rattle.onvm_session.specs.Boards.{token_after_turn, view_of_closed, view_of_token}
 use Rattle.onvm_session.specs.Endings.{IsClosed}

@@ -1,9 +1,7 @@
 -- What a role of a kind doesn't tell: cores and the tick role have no records, feeders and the tick role count nothing.
-use Rattle.std.proofs.Common.{◌≡◌, ℕ, ◌+◌, Bool, true, false, inl, inr, List, [], ◌∷◌, ◌++◌, length, refl, ◌∙◌, ap, arith, Option, Some, None}
-use Rattle.onvm_base.specs.declared.frame.SentFrame.{SentFrame}
+use Rattle.std.proofs.Common.{◌≡◌, ℕ, false, inl, inr, List, [], ◌∷◌, ◌++◌, refl, ap, arith, Some, None}
 use Rattle.onvm_base.specs.declared.ids.RingId.{RingId}
 use Rattle.onvm_base.specs.declared.ids.RingId.TheVariants.{Lane, Output, Mail}
-use Rattle.onvm_base.specs.declared.outcome.Record.{Record}
 use Rattle.onvm_core.specs.declared.entry.Entry.{Entry}
 use Rattle.onvm_core.specs.declared.layout.Word.{Word}
 use Rattle.onvm_core.specs.declared.layout.Word.TheVariants.{Cell, Pool as PoolWord, Post as PostWord}
@@ -13,7 +11,7 @@ use Rattle.onvm_core.proofs.Hands.{IsKind}
 use Rattle.onvm_core.specs.Blocks.{MayTick}
 use Rattle.onvm_core.specs.Blocks.RoleKind.{Receives, Sends, Handles, Ticks}
 use Rattle.onvm_core.specs.Handling.{MayHandle}
-use Rattle.onvm_core.specs.Logs.{Setting, Log, Hand}
+use Rattle.onvm_core.specs.Logs.{Setting, Log}
 use Rattle.onvm_core.specs.Places.{how_many, one_if}
 use Rattle.onvm_core.specs.Receiving.{IsMarkAct, MayReceiveFor, ReceivePhase, receive_phase}
 use Rattle.onvm_core.specs.Receiving.ReceivePhase.{Asks, Barred, Between, Seeks, Sees, Took}

@@ -1,41 +1,26 @@
 -- What roles kept, put together, is what their logs tell.
-use Rattle.std.proofs.Common.{◌≡◌, ℕ, zero, suc, ◌+◌, ◌-◌, ◌<◌, ◌≤◌, Bool, true, false, inl, inr, List, [], ◌∷◌, ◌++◌, length, refl, sym, ◌∙◌, ap, subst, arith}
+use Rattle.std.proofs.Common.{◌≡◌, ℕ, zero, suc, ◌+◌, ◌-◌, ◌<◌, ◌≤◌, Bool, true, inl, inr, List, [], ◌∷◌, ◌++◌, length, refl, sym, ◌∙◌, ap, subst, arith}
 use Rattle.std.specs.Prelude.{◌^◌, min, nat_lt}
 use Rattle.std.proofs.lemmas.Bool.{cases_Bool, ltb-true, ltb-false}
 use Rattle.onvm_base.specs.declared.frame.SentFrame.{SentFrame}
-use Rattle.onvm_base.specs.declared.ids.FrameId.{FrameId}
 use Rattle.onvm_base.specs.declared.outcome.Record.{Record}
 use Rattle.onvm_core.specs.declared.step.Act.{Act}
-use Rattle.onvm_core.proofs.Balance.{one_record_or_buffer}
 use Rattle.onvm_core.proofs.Hands.{IsKind, is_kind}
 use Rattle.onvm_core.proofs.Once.{how_many-append}
 use Rattle.onvm_core.proofs.RoleKinds.{kind_handles, kind_port, kind_sends, kind_tick}
-use Rattle.onvm_core.proofs.Rooms.{begun_in_range}
-use Rattle.onvm_core.specs.Blocks.{AllOfBlocks, IsOfBlocks, RoleKind, kind_of}
+use Rattle.onvm_core.specs.Blocks.{IsOfBlocks, RoleKind, kind_of}
 use Rattle.onvm_core.specs.Blocks.RoleKind.{Receives, Sends, Handles, Ticks}
-use Rattle.onvm_core.specs.Frames.{has_begun, record_count, same_frame}
-use Rattle.onvm_core.specs.History.{History}
 use Rattle.onvm_core.specs.Journals.{Handling}
-use Rattle.onvm_core.specs.Layouts.{IsFeeder, first_role, tick_role}
-use Rattle.onvm_core.specs.Logs.{Setting, Log, entries_of_port}
-use Rattle.onvm_core.specs.Places.{how_many, one_if}
+use Rattle.onvm_core.specs.Layouts.{first_role, tick_role}
+use Rattle.onvm_core.specs.Logs.{Setting, Log}
+use Rattle.onvm_core.specs.Places.{how_many}
 use Rattle.onvm_core.specs.Potential.{sum_below}
-use Rattle.onvm_core.specs.Records.{records_in, records_of_act, sent_frames_in, sent_frames_of_act}
-use Rattle.onvm_core.specs.Settings.{IsSetting}
-use Rattle.onvm_core.specs.declared.step.Act.TheVariants.{Give}
-use Rattle.onvm_core.specs.declared.step.Step.{Step}
-use Rattle.onvm_base.specs.declared.outcome.Outcome.TheVariants.{Sent}
 use Rattle.onvm_promises.specs.Kept.{AreCoreKeeps, AreFeederKeeps, CoreKeeps, FeederKeeps, at_most_64_bits, is_lost, is_yield, kept_at, posts_by, records_by, sent_by}
-use Rattle.onvm_session.proofs.Accounted.{blocks_of, many_of, sent_of}
-use Rattle.onvm_session.proofs.Ascending.{IsFew, ascending, many_permuted}
 use Rattle.onvm_session.proofs.Quiet.{core_log_tells_none, receive_log_counts_none, send_log_counts_none, tick_log_counts_none, tick_log_tells_none}
 use Rattle.onvm_session.proofs.Summing.{sum_behind, sum_cut, sum_front}
-use Rattle.onvm_session.specs.Accounts.{RunView}
-use Rattle.onvm_session.specs.Endings.{HasLists, IsClosed}
 use Rattle.onvm_session.specs.Gathering.{cores_counted, feeders_kept, recorded_count}
-use Rattle.onvm_session.specs.Lists.{Ascends, all_acts, all_kept, all_told}
+use Rattle.onvm_session.specs.Lists.{all_acts, all_kept, all_told}
 use Rattle.onvm_session.specs.Sessions.{IsRoleSoFar, Keeps}
-use Rattle.onvm_session.specs.Views.{IsLead}
 
 -- Feeder by feeder
 

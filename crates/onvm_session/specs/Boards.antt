@@ -1,7 +1,6 @@
 -- What the first token of a board, and a closed board, tell of a session.
-use Rattle.std.specs.Prelude.{ℕ, [], slice_index_or, None}
-use Rattle.onvm_core.specs.declared.layout.Word.TheVariants.{Pool}
-use Rattle.onvm_core.specs.declared.step.Act.TheVariants.{Look, Split}
+use Rattle.std.specs.Prelude.{ℕ, [], slice_index_or}
+use Rattle.onvm_core.specs.declared.step.Act.TheVariants.{Split}
 use Rattle.onvm_board.specs.Closing.{ClosedView}
 use Rattle.onvm_board.specs.Tokens.{TokenView, token_after, token_after_join}
 use Rattle.onvm_session.specs.Views.{FinalView, closing_look}

@@ -2,7 +2,8 @@
 
 use crate::{Gathered, RunLists};
 use onvm_base::{
-    FrameId, NoMemory, Outcome, Packet, PortId, Post, Posts, Record, Records, SentFrame, SentFrames, Stamp,
+    FrameId, NoMemory, Outcome, Packet, PortId, Post, Posts, Record, Records, SentFrame,
+    SentFrames, Stamp,
 };
 use std::alloc::Global;
 use std::test::Fail;
@@ -90,9 +91,17 @@ fn frames_stand_by_port_and_number_and_posts_by_feeder(rt: HostRuntime) -> Resul
 fn a_sent_frame_moves_with_its_bytes(rt: HostRuntime) -> Result<(), Fail> {
     let lists = of_two_feeders(rt.alloc())?;
     assert_eq!(rt; lists.sent.len(), 3);
-    for (sent, told) in lists.sent.as_slice().iter().zip(lists.records.as_slice().iter()) {
+    for (sent, told) in lists
+        .sent
+        .as_slice()
+        .iter()
+        .zip(lists.records.as_slice().iter())
+    {
         assert_eq!(rt; sent.frame, told.frame);
-        assert_eq!(rt; sent.packet.bytes(), told.frame.number.to_be_bytes().as_slice());
+        assert_eq!(rt;
+            sent.packet.bytes(),
+            told.frame.number.to_be_bytes().as_slice()
+        );
     }
     Ok(())
 }
