@@ -1,4 +1,6 @@
 pub mod Accounted
+pub mod Ascending
+pub mod Boarding
 pub mod Closing
 pub mod Done
 pub mod ExampleAccount
@@ -9,6 +11,7 @@ pub mod IdleRound
 pub mod IdleRun
 pub mod LastRound
 pub mod Leading
+pub mod Listing
 pub mod OverloadAccount
 pub mod OverloadCore
 pub mod OverloadPlan
@@ -22,14 +25,18 @@ pub mod Passing
 pub mod Peeling
 pub mod Phasing
 pub mod Places
+pub mod Quiet
 pub mod Reading
+pub mod RoleLists
 pub mod Rounds
 pub mod Seating
 pub mod Serial
 pub mod SerialTicking
 pub mod Session
+pub mod SessionLists
 pub mod Starting
 pub mod Stepping
+pub mod Summing
 pub mod TickTurns
 pub mod Turning
 pub mod Weaving
