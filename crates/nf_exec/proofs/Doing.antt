@@ -1,6 +1,5 @@
 -- Acts that follow one another in a core's log.
-use Rattle.std.proofs.Common.{◌≡◌, ℕ, [], ◌∷◌, ◌++◌, sym, subst, append_assoc}
-use Rattle.onvm_core.specs.Handling.{MayHandle}
+use Rattle.std.proofs.Common.{ℕ, [], ◌∷◌, ◌++◌, sym, subst, append_assoc}
 use Rattle.onvm_core.specs.Logs.{Log, Setting}
 use Rattle.onvm_core.specs.Samples.{AreSamples}
 use Rattle.onvm_promises.specs.Follows.{HandlesFrom}

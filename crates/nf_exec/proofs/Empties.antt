@@ -1,15 +1,12 @@
 -- Lanes of a function that are found empty, one after the other.
-use Rattle.std.proofs.Common.{◌≡◌, ℕ, suc, ◌+◌, ◌%◌, ◌<◌, ◌≤◌, Bool, true, false, inl, inr, List, [], ◌∷◌, ◌++◌, length, Some, None, Option, refl, sym, ap, ◌∙◌, subst, arith, append-nil}
-use Rattle.std.specs.Prelude.{◌≢◌, ◌==◌, ◌&&◌, if◌then◌else◌, ◌⊎◌}
-use Rattle.std.proofs.lemmas.Bool.{cases_Bool, eq-eqb, ne_eqb}
+use Rattle.std.proofs.Common.{◌≡◌, ℕ, suc, ◌%◌, ◌<◌, false, List, [], ◌∷◌, ◌++◌, length, Option, refl, sym, ap, ◌∙◌, subst, append-nil}
 use Rattle.onvm_base.specs.declared.ids.FnId.{FnId}
 use Rattle.onvm_base.specs.declared.ids.RingId.{RingId}
-use Rattle.onvm_base.specs.declared.ids.RingId.TheVariants.{Lane, Output}
+use Rattle.onvm_base.specs.declared.ids.RingId.TheVariants.{Output}
 use Rattle.onvm_base.specs.declared.plan.Plan.{Plan}
 use Rattle.onvm_core.specs.declared.layout.Layout.{Layout}
 use Rattle.onvm_core.specs.declared.parcel.Parcel.{Parcel}
 use Rattle.onvm_core.specs.declared.step.Act.{Act}
-use Rattle.onvm_core.specs.declared.step.Act.TheVariants.{Empty}
 use Rattle.onvm_core.specs.declared.step.Item.{Item}
 use Rattle.onvm_core.specs.Handling.{IsOwn, SawRoom, budget_left, budget_left_after, core_hand, hand_after, is_push_on}
 use Rattle.onvm_core.specs.Handling.SawRoom.{Since}
@@ -17,11 +14,11 @@ use Rattle.onvm_core.specs.History.{pushes}
 use Rattle.onvm_core.specs.Journals.{Handling, handlings, journal, last_popped_parcel, popped_or}
 use Rattle.onvm_core.specs.Layouts.{feeder_count}
 use Rattle.onvm_core.specs.Logs.{Hand, Log, Setting}
-use Rattle.onvm_core.specs.Places.{how_many, one_if}
+use Rattle.onvm_core.specs.Places.{how_many}
 use Rattle.onvm_core.specs.Potential.{pushed_in}
 use Rattle.onvm_promises.specs.Answers.{is_handled}
 use Rattle.onvm_promises.specs.Kept.{is_yield}
-use Rattle.onvm_promises.specs.Passes.{EndsWithEmpties, dry_after, is_weight_look, ran_dry, saw_full}
+use Rattle.onvm_promises.specs.Passes.{EndsWithEmpties, is_weight_look, saw_full}
 use Rattle.onvm_promises.specs.Passes.EndsWithEmpties.{NoEmpty, OneEmpty}
 use Rattle.onvm_promises.specs.Rests.{is_try}
 use Rattle.nf_exec.specs.Serving.{AreDueEmpties, IsDueEmpty}

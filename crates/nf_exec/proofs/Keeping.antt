@@ -1,6 +1,6 @@
 -- The kept parcel, at the begin of a pass.
-use Rattle.std.proofs.Common.{◌≡◌, ℕ, zero, suc, ◌+◌, ◌-◌, ◌<◌, ◌≤◌, Bool, true, false, inl, inr, List, [], ◌∷◌, ◌++◌, length, Some, None, Option, Result, Ok, Err, refl, sym, ap, ◌∙◌, subst, arith, append-nil, append_assoc}
-use Rattle.std.specs.Prelude.{OnErr, is_some, ◌≢◌, ◌⊎◌, ◌==◌, ◌^◌, min, if◌then◌else◌, nat_lt, slice_get, slice_set, slice_index_or}
+use Rattle.std.proofs.Common.{◌≡◌, ℕ, ◌+◌, ◌<◌, ◌≤◌, Bool, true, false, inl, inr, List, [], ◌∷◌, length, Some, None, Option, Result, Ok, Err, refl, sym, ap, ◌∙◌, subst, arith}
+use Rattle.std.specs.Prelude.{OnErr, ◌≢◌, ◌⊎◌, ◌==◌, if◌then◌else◌, slice_set, slice_index_or}
 use Rattle.std.proofs.lemmas.Bool.{eq-eqb, ne_eqb, true≢false}
 use Rattle.std.proofs.lemmas.Bool.Decides.{eqb_tells}
 use Rattle.std.proofs.lemmas.List.{get_or-set_other, length-set}
@@ -8,40 +8,31 @@ use Rattle.onvm_base.specs.declared.ids.BufId.{BufId}
 use Rattle.onvm_base.specs.declared.ids.FnId.{FnId}
 use Rattle.onvm_base.specs.declared.ids.RingId.TheVariants.{Lane, Output, Mail}
 use Rattle.onvm_base.specs.declared.plan.Plan.{Plan}
-use Rattle.onvm_core.specs.declared.entry.Entry.{Entry}
-use Rattle.onvm_core.specs.declared.layout.Layout.{Layout}
 use Rattle.onvm_core.specs.declared.parcel.Parcel.{Parcel}
-use Rattle.onvm_core.specs.declared.step.Act.{Act}
 use Rattle.onvm_core.specs.declared.step.Act.TheVariants.{Split, Join, Take, Give, Push, Full, Pop, Empty, Look, Post}
-use Rattle.onvm_core.specs.declared.step.Item.{Item}
 use Rattle.onvm_core.specs.declared.step.Item.TheVariants.{Buffer}
-use Rattle.onvm_core.specs.Handling.{core_hand, is_push_on}
+use Rattle.onvm_core.specs.Handling.{core_hand}
 use Rattle.onvm_core.specs.Layouts.{core_role}
 use Rattle.onvm_core.specs.Logs.{Hand, Log}
-use Rattle.onvm_core.specs.Places.{how_many, one_if}
+use Rattle.onvm_core.specs.Places.{how_many}
 use Rattle.onvm_core.specs.Samples.{is_sampled, unsampled_count}
-use Rattle.onvm_board.specs.Rule.{Hand as Slots}
-use Rattle.onvm_board.specs.Tokens.{BoardView, Carries, TokenView, first_parcel, grown, parcel_in}
+use Rattle.onvm_board.specs.Tokens.{BoardView, TokenView, first_parcel, grown, parcel_in}
 use Rattle.nf_api.specs.Acts.{Acts}
 use Rattle.nf_api.specs.Tree.{Tree}
-use Rattle.onvm_promises.specs.Answers.{is_handled}
 use Rattle.onvm_promises.specs.Kept.{at_most_64_bits, is_lost, is_yield}
-use Rattle.onvm_promises.specs.Passes.{is_mailed, is_service_act, saw_full}
-use Rattle.onvm_promises.specs.Roles.{oldest, setting_of}
 use Rattle.nf_exec.specs.declared.role.CoreRole.{CoreRole}
 use Rattle.nf_exec.specs.declared.role.Kept.{Kept}
 use Rattle.nf_exec.specs.declared.station.Station.{Station}
-use Rattle.nf_exec.specs.Handing.{HasGoneOn, IsUnmoved}
-use Rattle.nf_exec.specs.Roles.{AreServed, IsAtWork, IsCoreRole, IsKept, IsPassing, IsUnserved, counts_upto, times_are}
+use Rattle.nf_exec.specs.Handing.{IsUnmoved}
+use Rattle.nf_exec.specs.Roles.{AreServed, IsAtWork, IsCoreRole, IsKept, IsPassing, counts_upto, times_are}
 use Rattle.nf_exec.specs.Roles.IsKept.{NoneKept, OneKept}
 use Rattle.nf_exec.specs.Serving.{HasPassedOn}
-use Rattle.nf_exec.specs.Stations.{IsStation, IsToHandle, Stands, functions_of, in_hand}
-use Rattle.nf_exec.specs.Steps.{DoesFrom}
+use Rattle.nf_exec.specs.Stations.{IsStation, Stands, in_hand}
 use Rattle.nf_exec.specs.Steps.IsServiceStep.{APush}
 use Rattle.nf_exec.proofs.Elsewhere.{services_elsewhere}
 use Rattle.nf_exec.proofs.Servings.{stood_still}
 use Rattle.nf_exec.proofs.Turning.{made, pass_act, pass_does, pass_journal, pass_stands}
-use Rattle.nf_exec.proofs.Working.{at_set, function_at, functions_long, item_there, work_on}
+use Rattle.nf_exec.proofs.Working.{at_set, function_at, functions_long, work_on}
 
 -- Nothing waits for a sample exactly where the last push has one behind it
 
@@ -179,7 +170,7 @@ module _ {N : Type 0} (acts : N → Acts) (state : N → Tree) (site : BoardView
         first = λ hand some. (
           Buffer buf (made acts state site plan s.function buf u u_now before after own carried done),
           ap (λ (f : FnId). Some (Push (Output f)
-          (Buffer buf (made acts state site plan s.function buf u u_now before after own carried done))))
+              (Buffer buf (made acts state site plan s.function buf u u_now before after own carried done))))
               (same_function hand (sym held ∙ some)),
         );
         handles = refl;

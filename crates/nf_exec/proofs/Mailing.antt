@@ -1,24 +1,22 @@
 -- What the sample of one function leaves of its core's role.
-use Rattle.std.proofs.Common.{◌≡◌, ℕ, zero, suc, ◌+◌, ◌-◌, ◌*◌, ◌<◌, ◌≤◌, Bool, true, false, inl, inr, List, [], ◌∷◌, ◌++◌, length, Some, None, Option, refl, sym, ap, ◌∙◌, subst, arith, append-nil, append_assoc}
-use Rattle.std.specs.Prelude.{◌≢◌, ◌⊎◌, ◌==◌, ◌^◌, ◌/◌, ◌%◌, min, nat_lt, slice_get, slice_set, slice_index_or}
+use Rattle.std.proofs.Common.{◌≡◌, ℕ, zero, suc, ◌+◌, ◌-◌, ◌*◌, ◌<◌, ◌≤◌, Bool, true, false, inl, inr, List, [], ◌∷◌, ◌++◌, length, Some, Option, refl, sym, ap, ◌∙◌, subst, arith}
+use Rattle.std.specs.Prelude.{◌≢◌, ◌⊎◌, ◌==◌, ◌^◌, ◌/◌, min, nat_lt, slice_set, slice_index_or}
 use Rattle.std.proofs.lemmas.Bool.{eq-eqb, lt-ltb}
 use Rattle.std.proofs.lemmas.Bool.Decides.{eqb_tells}
-use Rattle.std.proofs.lemmas.Nat.{mod_low}
 use Rattle.onvm_base.specs.declared.ids.FnId.{FnId}
 use Rattle.onvm_base.specs.declared.ids.RingId.TheVariants.{Output, Mail}
 use Rattle.onvm_base.specs.declared.plan.Plan.{Plan}
 use Rattle.onvm_core.specs.declared.entry.Entry.{Entry}
 use Rattle.onvm_core.specs.declared.layout.Layout.{Layout}
-use Rattle.onvm_core.specs.declared.step.Act.{Act}
-use Rattle.onvm_core.specs.declared.step.Act.TheVariants.{Push, Full}
+use Rattle.onvm_core.specs.declared.step.Act.TheVariants.{Push}
 use Rattle.onvm_core.specs.declared.step.Item.TheVariants.{Number}
 use Rattle.onvm_core.specs.Handling.{core_hand}
 use Rattle.onvm_core.specs.Journals.{journal, last_popped_parcel}
 use Rattle.onvm_core.specs.Layouts.{core_role}
-use Rattle.onvm_core.specs.Logs.{Hand, Log, Setting}
+use Rattle.onvm_core.specs.Logs.{Hand, Log}
 use Rattle.onvm_core.specs.Places.{how_many, one_if}
 use Rattle.onvm_core.specs.Potential.{pushed_in}
-use Rattle.onvm_core.specs.Samples.{count_in, unsampled_count}
+use Rattle.onvm_core.specs.Samples.{unsampled_count}
 use Rattle.onvm_core.proofs.Once.{how_many-append}
 use Rattle.onvm_board.specs.Known.{has_room}
 use Rattle.onvm_board.specs.Tokens.{BoardView, TokenView, grown}
@@ -36,8 +34,8 @@ use Rattle.nf_exec.specs.Roles.{AreMailsOf, HasMailed, IsAtWork, IsMailOf, IsKep
 use Rattle.nf_exec.specs.Roles.IsKept.{NoneKept, OneKept}
 use Rattle.nf_exec.specs.Roles.IsMailOf.{AMail as MailOf, ALoss as LossOf}
 use Rattle.nf_exec.specs.Serving.{sample_acts}
-use Rattle.nf_exec.specs.Stations.{AreFunctionsOf, IsStation, IsToHandle, Stands, functions_of, in_hand}
-use Rattle.nf_exec.specs.Steps.{DoesFrom, MayDo}
+use Rattle.nf_exec.specs.Stations.{AreFunctionsOf, IsStation, Stands, functions_of, in_hand}
+use Rattle.nf_exec.specs.Steps.{DoesFrom}
 use Rattle.nf_exec.specs.Steps.IsSampleStep.{AMail, ALoss}
 use Rattle.nf_exec.proofs.Doing.{does_append}
 use Rattle.nf_exec.proofs.Elsewhere.{AreQuiet, AreSilent, quiet_journal, sample_elsewhere, sample_quiet, silent_mailed}

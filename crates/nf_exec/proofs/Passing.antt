@@ -1,36 +1,32 @@
 -- Services one after the other.
-use Rattle.std.proofs.Common.{◌≡◌, ℕ, zero, suc, ◌+◌, ◌<◌, ◌≤◌, Bool, true, false, inl, inr, List, [], ◌∷◌, ◌++◌, length, Some, None, Option, refl, sym, ap, ◌∙◌, subst, arith, append-nil, append_assoc}
-use Rattle.std.specs.Prelude.{◌≢◌, ◌⊎◌, ◌==◌, nat_lt, if◌then◌else◌, slice_index_or}
-use Rattle.std.proofs.lemmas.Bool.{eq-eqb}
+use Rattle.std.proofs.Common.{◌≡◌, ℕ, zero, suc, ◌+◌, ◌<◌, ◌≤◌, true, false, inl, inr, List, [], ◌∷◌, ◌++◌, length, Some, None, refl, sym, ap, ◌∙◌, subst, arith, append_assoc}
+use Rattle.std.specs.Prelude.{◌≢◌, ◌⊎◌, ◌==◌, slice_index_or}
 use Rattle.std.proofs.lemmas.Bool.Decides.{eqb_tells}
-use Rattle.onvm_base.specs.declared.ids.BufId.{BufId}
 use Rattle.onvm_base.specs.declared.ids.FnId.{FnId}
 use Rattle.onvm_base.specs.declared.ids.RingId.TheVariants.{Lane, Output}
 use Rattle.onvm_base.specs.declared.plan.Plan.{Plan}
 use Rattle.onvm_core.specs.declared.entry.Entry.{Entry}
-use Rattle.onvm_core.specs.declared.layout.Layout.{Layout}
 use Rattle.onvm_core.specs.declared.layout.Word.TheVariants.{Weight}
 use Rattle.onvm_core.specs.declared.step.Act.{Act}
 use Rattle.onvm_core.specs.declared.step.Act.TheVariants.{Push, Look}
-use Rattle.onvm_core.specs.declared.step.Item.{Item}
 use Rattle.onvm_core.specs.Handling.{budget_left, core_hand, is_push_on}
 use Rattle.onvm_core.specs.Layouts.{core_role, feeder_count}
-use Rattle.onvm_core.specs.Logs.{Hand, Log, Setting}
+use Rattle.onvm_core.specs.Logs.{Log}
 use Rattle.onvm_core.specs.Places.{how_many, one_if}
 use Rattle.onvm_core.proofs.Once.{how_many-append}
 use Rattle.onvm_board.specs.Tokens.{BoardView, TokenView, grown}
 use Rattle.onvm_board.proofs.Stretches.{grown_twice}
 use Rattle.onvm_promises.specs.Answers.{is_handled}
 use Rattle.onvm_promises.specs.Kept.{is_lost, is_yield}
-use Rattle.onvm_promises.specs.Passes.{EndsBarred, EndsService, EndsWithEmpties, IsServed, is_mailed, is_service_act, is_weight_look, ran_dry, saw_full}
+use Rattle.onvm_promises.specs.Passes.{EndsService, IsServed, is_mailed, is_service_act, ran_dry, saw_full}
 use Rattle.onvm_promises.specs.Roles.{oldest, setting_of}
 use Rattle.onvm_promises.proofs.Moving.{dry_more}
 use Rattle.nf_exec.specs.declared.turn.Turn.{Turn}
 use Rattle.nf_exec.specs.declared.turn.Turn.TheVariants.{Handled, Barred, Dry, Wanting}
 use Rattle.nf_exec.specs.Roles.{AreServed, IsPassing, IsUnserved, WasServed}
-use Rattle.nf_exec.specs.Serving.{EndsBy, IsService, IsServing, is_barred, kept_by}
+use Rattle.nf_exec.specs.Serving.{EndsBy, IsService, is_barred, kept_by}
 use Rattle.nf_exec.specs.Stations.{AreFunctionsOf}
-use Rattle.nf_exec.specs.Steps.{AreServiceSteps, DoesFrom, IsServiceStep, MayDo}
+use Rattle.nf_exec.specs.Steps.{AreServiceSteps, DoesFrom, IsServiceStep}
 use Rattle.nf_exec.specs.Steps.IsServiceStep.{AWeigh, AGlance, APop, AnEmpty, APush}
 use Rattle.nf_exec.proofs.Doing.{does_append}
 use Rattle.nf_exec.proofs.Elsewhere.{AreQuiet, AreSilent, none_of, quiet_dry, quiet_full, quiet_pushes, quiet_services, services_elsewhere, silent_quiet}
@@ -82,8 +78,7 @@ module _ (site : BoardView) (plan : Plan) (f : FnId) (k : ℕ) (last : Turn) (be
   pub service_does : (entries : List Entry)
       → DoesFrom (setting_of site.layout plan entries) before.role before.log service
   service_does entries =
-      does_append (setting_of site.layout plan entries) before.role before.log (look ∷ []) is.serving.added
-      (
+      does_append (setting_of site.layout plan entries) before.role before.log (look ∷ []) is.serving.added (
         record {
           handles = (record { known = own.0; core = own.1 }, refl);
           tries = tt;

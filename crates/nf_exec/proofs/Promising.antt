@@ -1,6 +1,6 @@
 -- The promise of a pass, from its services and its samples.
-use Rattle.std.proofs.Common.{◌≡◌, ℕ, zero, suc, ◌+◌, ◌-◌, ◌*◌, ◌<◌, ◌≤◌, Bool, true, false, not, inl, inr, List, [], ◌∷◌, ◌++◌, length, Some, None, Option, refl, sym, ap, ◌∙◌, subst, arith, append-nil, append_assoc}
-use Rattle.std.specs.Prelude.{is_some, ◌≢◌, ◌⊎◌, ◌==◌, ◌^◌, ◌/◌, ◌%◌, min, nat_lt, if◌then◌else◌, slice_get, slice_index_or}
+use Rattle.std.proofs.Common.{◌≡◌, ℕ, zero, suc, ◌+◌, ◌*◌, ◌<◌, Bool, true, false, not, inl, inr, List, [], ◌∷◌, ◌++◌, length, Some, None, Option, refl, sym, ap, ◌∙◌, subst, arith, append_assoc}
+use Rattle.std.specs.Prelude.{is_some, ◌≢◌, ◌⊎◌, ◌==◌, ◌^◌, nat_lt, if◌then◌else◌, slice_index_or}
 use Rattle.std.proofs.lemmas.Bool.{eq-eqb, ne_eqb, true≢false}
 use Rattle.std.proofs.lemmas.Nat.{mod_low}
 use Rattle.onvm_base.specs.declared.ids.FnId.{FnId}
@@ -13,38 +13,37 @@ use Rattle.onvm_core.specs.declared.step.Act.TheVariants.{Split, Join, Take, Giv
 use Rattle.onvm_core.specs.declared.step.Item.{Item}
 use Rattle.onvm_core.specs.declared.step.Item.TheVariants.{Buffer, Number}
 use Rattle.onvm_core.specs.Handling.{IsOwn, core_hand, hand_after, is_push_on}
-use Rattle.onvm_core.specs.Journals.{GoesThrough, Handling, journal}
-use Rattle.onvm_core.specs.Layouts.{core_role, feeder_count}
+use Rattle.onvm_core.specs.Journals.{GoesThrough, journal}
+use Rattle.onvm_core.specs.Layouts.{feeder_count}
 use Rattle.onvm_core.specs.Logs.{Hand, Log, Setting}
 use Rattle.onvm_core.specs.Places.{how_many, one_if}
 use Rattle.onvm_core.specs.Samples.{is_sampled, unsampled_count, unsampled_count_after}
 use Rattle.onvm_core.proofs.Once.{how_many-append}
-use Rattle.onvm_board.specs.Tokens.{BoardView, TokenView, grown}
-use Rattle.onvm_board.proofs.Stretches.{grown_twice}
+use Rattle.onvm_board.specs.Tokens.{BoardView, TokenView}
 use Rattle.nf_api.specs.Acts.{Acts}
 use Rattle.nf_api.specs.Tree.{Tree}
 use Rattle.onvm_promises.specs.declared.pass.Pass.{Pass}
 use Rattle.onvm_promises.specs.declared.pass.Pass.TheVariants.{Did, Idle, Wanting, Stopped}
 use Rattle.onvm_promises.specs.Answers.{IsIdleCore, Tells, is_complete, is_handled}
-use Rattle.onvm_promises.specs.Passes.{HasOneSample, IsCorePass, IsServed, is_mailed, is_service_act, ran_dry, saw_full}
+use Rattle.onvm_promises.specs.Passes.{HasOneSample, IsServed, is_mailed, is_service_act, ran_dry, saw_full}
 use Rattle.onvm_promises.specs.Rests.{RestsHandling}
-use Rattle.onvm_promises.specs.Roles.{HandsFirst, IsCorePromise, IsCoreSoFar, oldest, setting_of}
-use Rattle.onvm_promises.specs.Sampling.{AreTimed, MayTime, cost_of}
+use Rattle.onvm_promises.specs.Roles.{HandsFirst, IsCorePromise, oldest, setting_of}
+use Rattle.onvm_promises.specs.Sampling.{AreTimed, MayTime}
 use Rattle.onvm_promises.proofs.Evening.{none_first}
 use Rattle.onvm_promises.proofs.Following.{handles_follow}
 use Rattle.nf_exec.specs.declared.role.CoreRole.{CoreRole}
 use Rattle.nf_exec.specs.declared.station.Station.{Station}
 use Rattle.nf_exec.specs.Handing.{HasGoneOn, acts_in, by_handling, state_in, unit_of}
-use Rattle.nf_exec.specs.Roles.{AreMailsOf, AreServed, HasMailed, IsAtWork, IsCoreRole, IsMailOf, IsPassing, WasServed, acts_of, counted, counts_upto, start_of, state_of, times_are}
+use Rattle.nf_exec.specs.Roles.{AreMailsOf, HasMailed, IsAtWork, IsCoreRole, IsMailOf, IsPassing, WasServed, acts_of, counted, counts_upto, start_of, state_of, times_are}
 use Rattle.nf_exec.specs.Roles.IsMailOf.{AMail as MailOf, ALoss as LossOf}
-use Rattle.nf_exec.specs.Stations.{AreFunctionsOf, functions_of}
+use Rattle.nf_exec.specs.Stations.{functions_of}
 use Rattle.nf_exec.specs.Steps.{DoesFrom}
 use Rattle.nf_exec.specs.Steps.IsSampleStep.{AMail, ALoss}
 use Rattle.nf_exec.proofs.Doing.{does_append, does_handle, does_look, does_sample, does_try}
 use Rattle.nf_exec.proofs.Elsewhere.{AreQuiet, IsQuiet, none_of, quiet_dry, quiet_full, quiet_pushes, quiet_services, sample_quiet}
 use Rattle.nf_exec.proofs.Keeping.{all_sampled, none_waits}
 use Rattle.nf_exec.proofs.Passing.{oldest_over, same_at}
-use Rattle.nf_exec.proofs.Working.{as_long, function_at, functions_long, item_there, kept_free}
+use Rattle.nf_exec.proofs.Working.{function_at, functions_long, item_there, kept_free}
 
 -- Samples
 

@@ -1,6 +1,6 @@
 -- A core's role as it begins.
-use Rattle.std.proofs.Common.{◌≡◌, ℕ, zero, suc, ◌+◌, ◌-◌, ◌%◌, ◌<◌, ◌≤◌, Bool, true, false, inl, inr, List, [], ◌∷◌, ◌++◌, length, take, get_or, Some, None, Option, refl, sym, ap, ◌∙◌, subst, arith, length-append}
-use Rattle.std.specs.Prelude.{◌≢◌, ◌⊎◌, ◌==◌, nat_lt, if◌then◌else◌, map, min, replicate, slice_get, slice_index, slice_index_or}
+use Rattle.std.proofs.Common.{◌≡◌, ℕ, zero, suc, ◌+◌, ◌-◌, ◌%◌, ◌<◌, ◌≤◌, true, false, inl, inr, List, [], ◌∷◌, ◌++◌, length, take, Some, None, Option, refl, sym, ap, ◌∙◌, subst, arith, length-append}
+use Rattle.std.specs.Prelude.{◌≢◌, ◌⊎◌, ◌==◌, map, min, replicate, slice_get, slice_index, slice_index_or}
 use Rattle.std.proofs.lemmas.Bool.{cases_lt, eq-eqb, le-ltb, lt-ltb, ne_eqb}
 use Rattle.std.proofs.lemmas.Bool.Decides.{eqb_tells}
 use Rattle.std.proofs.lemmas.Option.{none-some, same_Some, slice_get_within}
@@ -8,7 +8,7 @@ use Rattle.std.proofs.lemmas.List.{take_more}
 use Rattle.std.proofs.Math.Nat.{mod-eq_of_lt}
 use Rattle.onvm_base.specs.declared.function.FunctionPlan.{FunctionPlan}
 use Rattle.onvm_base.specs.declared.ids.FnId.{FnId}
-use Rattle.onvm_base.specs.declared.ids.RingId.TheVariants.{Lane, Output, Mail}
+use Rattle.onvm_base.specs.declared.ids.RingId.TheVariants.{Output, Mail}
 use Rattle.onvm_base.specs.declared.limits.TheConstants.{MAX_FUNCTIONS}
 use Rattle.onvm_base.specs.declared.plan.Plan.{Plan}
 use Rattle.onvm_core.specs.declared.layout.Layout.{Layout}
@@ -26,7 +26,6 @@ use Rattle.onvm_core.proofs.Lists.{if_met, if_unmet}
 use Rattle.onvm_board.specs.Tokens.{BoardView, TokenView}
 use Rattle.desc_ring.specs.declared.mail.Mail.{Mail as MailEnd}
 use Rattle.desc_ring.specs.declared.tail.Tail.{Tail}
-use Rattle.desc_ring.specs.Arrays.{new_mail, new_tail}
 use Rattle.desc_ring.specs.Ends.{IsMailTail, IsTailOf}
 use Rattle.desc_ring.proofs.Beginning.{lane_heads_begin, mail_tail_begins, tail_begins}
 use Rattle.nf_api.specs.Acts.{Acts}
@@ -40,13 +39,13 @@ use Rattle.nf_exec.specs.declared.role.Kept.{Kept}
 use Rattle.nf_exec.specs.declared.room.CoreRoom.{CoreRoom}
 use Rattle.nf_exec.specs.declared.station.Station.{Station}
 use Rattle.nf_exec.specs.Handing.{HasGoneOn}
-use Rattle.nf_exec.specs.Roles.{IsAtWork, IsCoreRole, IsKept}
+use Rattle.nf_exec.specs.Roles.{IsCoreRole, IsKept}
 use Rattle.nf_exec.specs.Roles.IsKept.{NoneKept}
 use Rattle.nf_exec.specs.Rooms.{AreNewStations, IsFresh, IsNewRoom, IsNewStation}
 use Rattle.nf_exec.specs.Stations.{AreFunctionsOf, IsStation, functions_of, in_hand}
 use Rattle.nf_exec.proofs.Passing.{same_at}
 use Rattle.nf_exec.proofs.Servings.{stood}
-use Rattle.nf_exec.proofs.Working.{function_at, functions_long, item_there}
+use Rattle.nf_exec.proofs.Working.{function_at, functions_long}
 
 -- The functions of a core
 
@@ -243,8 +242,7 @@ functions_begin plan layout core role of role_is = record {
       let within = slice_get_within plan.functions is.k is.function is.found in
       let at = core_is plan layout is.k is.function of is.found in
       let place : f.0 ≡ is.k = omega (arith, is.number_is) in
-      let same = ap (λ (j : ℕ). slice_index layout.core_of j) place in
-      (
+      let same = ap (λ (j : ℕ). slice_index layout.core_of j) place in (
         omega (arith, of.functions, is.number_is, within),
         omega (arith, at, same, is.own, role_is, is.number_is),
       );
@@ -254,8 +252,7 @@ functions_begin plan layout core role of role_is = record {
       let function = found_at plan.functions f.0 (omega (arith, of.functions, known)) in
       let at = core_is plan layout f.0 function.0 of function.1 in
       let there = resident_there 0 core plan.functions f.0 function.0 function.1 (omega (arith, at, core_is_role, role_is)) in
-      let same : 0 + f.0 ≡ f.0 = omega arith in
-      (
+      let same : 0 + f.0 ≡ f.0 = omega arith in (
         there.0,
         there.1,
         subst (λ (m : ℕ). number m ≡ slice_index_or (residents core plan.functions) there.0 (number m)) same there.2,

@@ -1,5 +1,5 @@
 -- A function's lanes, tried one after the other.
-use Rattle.std.proofs.Common.{◌≡◌, ℕ, ◌+◌, ◌%◌, ◌<◌, ◌≤◌, Bool, true, false, inl, inr, List, [], ◌∷◌, ◌++◌, length, Some, None, Option, refl, sym, ap, ◌∙◌, subst, arith}
+use Rattle.std.proofs.Common.{◌≡◌, ℕ, ◌+◌, ◌%◌, ◌<◌, ◌≤◌, Bool, true, false, inl, inr, [], ◌∷◌, ◌++◌, length, Some, None, refl, ap, ◌∙◌, subst, arith}
 use Rattle.std.specs.Prelude.{◌≢◌, ◌⊎◌, ◌==◌, ◌&&◌, if◌then◌else◌}
 use Rattle.std.proofs.lemmas.Bool.{cases_lt, eq-eqb}
 use Rattle.std.proofs.lemmas.Bool.Decides.{eqb_tells}
@@ -7,16 +7,15 @@ use Rattle.onvm_base.specs.declared.ids.BufId.{BufId}
 use Rattle.onvm_base.specs.declared.ids.FnId.{FnId}
 use Rattle.onvm_base.specs.declared.ids.RingId.TheVariants.{Lane}
 use Rattle.onvm_core.specs.declared.parcel.Parcel.{Parcel}
-use Rattle.onvm_core.specs.declared.step.Act.{Act}
 use Rattle.onvm_core.specs.declared.step.Act.TheVariants.{Empty}
 use Rattle.onvm_core.specs.Layouts.{IsBuffer, feeder_count}
 use Rattle.onvm_core.specs.Logs.{Log}
 use Rattle.onvm_core.specs.Places.{how_many}
 use Rattle.onvm_board.specs.Tokens.{BoardView, Carries, TokenView, grown, parcel_in}
 use Rattle.onvm_board.proofs.Stretches.{grown_twice}
-use Rattle.onvm_promises.specs.Passes.{dry_after, ran_dry}
+use Rattle.onvm_promises.specs.Passes.{ran_dry}
 use Rattle.onvm_promises.specs.Rests.{is_try}
-use Rattle.nf_exec.specs.Serving.{AreDueEmpties, HasSearched, HasTried, IsNextLane, found_in}
+use Rattle.nf_exec.specs.Serving.{HasSearched, HasTried, IsNextLane}
 use Rattle.nf_exec.specs.Serving.IsDueEmpty.{ADueEmpty}
 use Rattle.nf_exec.specs.Steps.{tried}
 

@@ -1,15 +1,13 @@
 -- Turns one after the other.
-use Rattle.std.proofs.Common.{◌≡◌, ℕ, ◌+◌, ◌<◌, ◌≤◌, Bool, true, false, List, [], ◌∷◌, ◌++◌, length, Some, None, Option, refl, sym, ap, ◌∙◌, subst, arith, append-nil, append_assoc}
-use Rattle.std.specs.Prelude.{◌==◌, if◌then◌else◌}
+use Rattle.std.proofs.Common.{◌≡◌, ℕ, ◌+◌, ◌<◌, List, [], ◌∷◌, ◌++◌, Some, None, refl, sym, ap, ◌∙◌, subst, arith, append-nil, append_assoc}
+use Rattle.std.specs.Prelude.{◌==◌}
 use Rattle.std.proofs.lemmas.Bool.{eq-eqb}
 use Rattle.onvm_base.specs.declared.ids.BufId.{BufId}
 use Rattle.onvm_base.specs.declared.ids.FnId.{FnId}
 use Rattle.onvm_base.specs.declared.ids.RingId.TheVariants.{Lane, Output}
-use Rattle.onvm_base.specs.declared.outcome.Record.{Record}
 use Rattle.onvm_base.specs.declared.plan.Plan.{Plan}
-use Rattle.onvm_core.specs.declared.entry.Entry.{Entry}
-use Rattle.onvm_core.specs.declared.layout.Word.TheVariants.{Cell, Weight}
-use Rattle.onvm_core.specs.declared.step.Act.TheVariants.{Push, Empty, Look}
+use Rattle.onvm_core.specs.declared.layout.Word.TheVariants.{Weight}
+use Rattle.onvm_core.specs.declared.step.Act.TheVariants.{Look}
 use Rattle.onvm_core.specs.Handling.{budget, budget_left, core_hand, is_push_on}
 use Rattle.onvm_core.specs.Journals.{GoesThrough, Handling, journal}
 use Rattle.onvm_core.specs.Layouts.{core_role, feeder_count}
@@ -17,13 +15,13 @@ use Rattle.onvm_core.specs.Logs.{Hand, Log}
 use Rattle.onvm_core.specs.Places.{how_many, one_if}
 use Rattle.onvm_core.proofs.Lists.{if_met}
 use Rattle.onvm_core.proofs.Once.{how_many-append}
-use Rattle.onvm_board.specs.Tokens.{BoardView, TokenView, grown, parcel_in}
+use Rattle.onvm_board.specs.Tokens.{BoardView, TokenView, grown}
 use Rattle.onvm_board.proofs.Stretches.{grown_twice}
-use Rattle.nf_api.specs.Acts.{Acts, Narrows}
+use Rattle.nf_api.specs.Acts.{Acts}
 use Rattle.nf_api.specs.Tree.{Tree}
 use Rattle.onvm_promises.specs.Answers.{is_handled}
 use Rattle.onvm_promises.specs.Kept.{is_yield}
-use Rattle.onvm_promises.specs.Passes.{EndsBarred, EndsWithEmpties, is_weight_look, ran_dry, saw_full}
+use Rattle.onvm_promises.specs.Passes.{EndsBarred, EndsWithEmpties, is_weight_look, saw_full}
 use Rattle.onvm_promises.specs.Passes.EndsBarred.{ABar}
 use Rattle.onvm_promises.specs.Passes.EndsWithEmpties.{NoEmpty, OneEmpty}
 use Rattle.onvm_promises.specs.Roles.{setting_of}
@@ -31,7 +29,7 @@ use Rattle.onvm_promises.proofs.Moving.{dry_more}
 use Rattle.nf_exec.specs.declared.turn.Turn.{Turn}
 use Rattle.nf_exec.specs.declared.turn.Turn.TheVariants.{Handled, Barred, Dry, Wanting}
 use Rattle.nf_exec.specs.Handing.{HasGoneOn, IsUnmoved, by_handling}
-use Rattle.nf_exec.specs.Serving.{EndsBy, HasPassedOn, IsServing, is_barred, is_handled_turn, is_wanting}
+use Rattle.nf_exec.specs.Serving.{EndsBy, HasPassedOn, IsServing, is_handled_turn}
 use Rattle.nf_exec.specs.Stations.{Stands}
 use Rattle.nf_exec.specs.Steps.{DoesFrom, MayDo}
 use Rattle.nf_exec.specs.Steps.IsServiceStep.{APush}

@@ -1,6 +1,6 @@
 -- A station over acts: those that don't concern it, and its own.
-use Rattle.std.proofs.Common.{◌≡◌, ℕ, ◌+◌, ◌%◌, ◌<◌, ◌≤◌, inl, inr, true, false, Result, Ok, Err, List, [], ◌∷◌, ◌++◌, length, Some, None, Option, refl, sym, ap, ◌∙◌, subst, arith, append-nil}
-use Rattle.std.specs.Prelude.{IfOk, IfErr, ◌≢◌, ◌⊎◌, ◌==◌, min, if◌then◌else◌, slice_set, slice_index_or}
+use Rattle.std.proofs.Common.{◌≡◌, ℕ, ◌+◌, ◌%◌, ◌<◌, inl, inr, true, Result, Ok, Err, List, [], ◌∷◌, ◌++◌, Some, None, Option, refl, sym, ap, ◌∙◌, subst, arith}
+use Rattle.std.specs.Prelude.{IfOk, IfErr, ◌≢◌, ◌==◌, min, slice_set}
 use Rattle.std.proofs.lemmas.Bool.{eq-eqb}
 use Rattle.std.proofs.Math.Nat.{mod-add-mod, mod-eq_of_lt, mod_self}
 use Rattle.onvm_base.specs.declared.ids.BufId.{BufId}
@@ -12,11 +12,10 @@ use Rattle.onvm_core.specs.declared.layout.Word.{Word}
 use Rattle.onvm_core.specs.declared.parcel.Parcel.{Parcel}
 use Rattle.onvm_core.specs.declared.parcel.TheConstants.{MAX_PLACE}
 use Rattle.onvm_core.specs.declared.step.Act.{Act}
-use Rattle.onvm_core.specs.declared.step.Act.TheVariants.{Push, Full, Pop, Empty, Look}
-use Rattle.onvm_core.specs.declared.step.Item.{Item}
+use Rattle.onvm_core.specs.declared.step.Act.TheVariants.{Push, Full, Look}
 use Rattle.onvm_core.specs.declared.step.Item.TheVariants.{Buffer, Number}
 use Rattle.onvm_core.specs.Handling.{crumb_place}
-use Rattle.onvm_core.specs.Layouts.{core_role, feeder_count}
+use Rattle.onvm_core.specs.Layouts.{feeder_count}
 use Rattle.onvm_core.specs.Logs.{Log, push_count}
 use Rattle.onvm_core.specs.Places.{how_many}
 use Rattle.onvm_core.specs.Potential.{popped_in, pushed_in}
@@ -24,9 +23,7 @@ use Rattle.onvm_core.specs.Samples.{unsampled_count, unsampled_count_after}
 use Rattle.onvm_board.specs.Rule.{Hand}
 use Rattle.onvm_board.specs.Tokens.{BoardView, MakesStep, TokenView, grown, token_after}
 use Rattle.desc_ring.specs.declared.head.Head.{Head}
-use Rattle.desc_ring.specs.declared.mail.Mail.{Mail as MailEnd}
-use Rattle.desc_ring.specs.declared.tail.Tail.{Tail}
-use Rattle.desc_ring.specs.Arrays.{AreLaneHeads, IsHeadAt, lane_to}
+use Rattle.desc_ring.specs.Arrays.{AreLaneHeads, lane_to}
 use Rattle.desc_ring.specs.Ends.{IsHeadOf, IsMailTail, IsTailOf}
 use Rattle.desc_ring.proofs.InArrays.{heads_grown, heads_moved, lanes_to_apart}
 use Rattle.desc_ring.proofs.Stays.{mail_tail_grown, popped_apart, tail_grown}

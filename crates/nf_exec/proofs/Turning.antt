@@ -1,6 +1,6 @@
 -- How a turn ends.
-use Rattle.std.proofs.Common.{◌≡◌, ℕ, suc, ◌+◌, ◌-◌, ◌%◌, ◌<◌, ◌≤◌, Bool, true, false, inl, inr, List, [], ◌∷◌, ◌++◌, length, Some, None, Option, Result, Ok, Err, refl, sym, ap, ◌∙◌, subst, arith, append-nil, length-append}
-use Rattle.std.specs.Prelude.{IfOk, IfErr, is_ok, ◌≢◌, ◌==◌, ◌&&◌, not, if◌then◌else◌, ◌⊎◌, slice_get}
+use Rattle.std.proofs.Common.{◌≡◌, ℕ, ◌+◌, ◌-◌, ◌%◌, ◌<◌, Bool, true, false, List, [], ◌∷◌, ◌++◌, Some, None, Option, Result, Ok, Err, refl, sym, ap, ◌∙◌, subst, arith, append-nil}
+use Rattle.std.specs.Prelude.{IfOk, IfErr, is_ok, ◌≢◌, ◌==◌, if◌then◌else◌}
 use Rattle.std.proofs.lemmas.Bool.{eq-eqb, ne_eqb, true≢false}
 use Rattle.std.proofs.lemmas.Nat.{mod_below}
 use Rattle.onvm_base.specs.declared.ids.BufId.{BufId}
@@ -8,48 +8,45 @@ use Rattle.onvm_base.specs.declared.ids.FnId.{FnId}
 use Rattle.onvm_base.specs.declared.ids.RingId.{RingId}
 use Rattle.onvm_base.specs.declared.ids.RingId.TheVariants.{Lane, Output}
 use Rattle.onvm_base.specs.declared.refusal.Full.{Full as FullRing}
-use Rattle.onvm_base.specs.declared.outcome.Verdict.{Verdict}
 use Rattle.onvm_base.specs.declared.plan.Plan.{Plan}
 use Rattle.onvm_core.specs.declared.entry.Entry.{Entry}
-use Rattle.onvm_core.specs.declared.layout.Layout.{Layout}
-use Rattle.onvm_core.specs.declared.layout.Word.TheVariants.{Cell, Weight}
+use Rattle.onvm_core.specs.declared.layout.Word.TheVariants.{Cell}
 use Rattle.onvm_core.specs.declared.parcel.Parcel.{Parcel}
 use Rattle.onvm_core.specs.declared.step.Act.{Act}
-use Rattle.onvm_core.specs.declared.step.Act.TheVariants.{Push, Full, Pop, Empty, Look}
+use Rattle.onvm_core.specs.declared.step.Act.TheVariants.{Push, Pop, Look}
 use Rattle.onvm_core.specs.declared.step.Item.TheVariants.{Buffer}
-use Rattle.onvm_core.specs.Handling.{IsOwn, SawRoom, budget_left, core_hand, crumb_place, is_push_on, next_cell}
-use Rattle.onvm_core.specs.Handling.SawRoom.{ByLook, Since}
-use Rattle.onvm_core.specs.Journals.{GoesThrough, Handling, handling, journal, last_popped_parcel, verdict_in}
-use Rattle.onvm_core.specs.Layouts.{IsLayoutOf, core_role, feeder_count, ring_size}
-use Rattle.onvm_core.specs.Logs.{Hand, IsHandled, Log, Setting, last_crumb, push_count}
-use Rattle.onvm_core.specs.Places.{how_many, one_if}
+use Rattle.onvm_core.specs.Handling.{IsOwn, SawRoom, budget_left, core_hand, crumb_place, is_push_on}
+use Rattle.onvm_core.specs.Handling.SawRoom.{ByLook}
+use Rattle.onvm_core.specs.Journals.{Handling, handling, journal, last_popped_parcel, verdict_in}
+use Rattle.onvm_core.specs.Layouts.{IsLayoutOf, core_role, feeder_count}
+use Rattle.onvm_core.specs.Logs.{Hand, Log, push_count}
+use Rattle.onvm_core.specs.Places.{how_many}
 use Rattle.onvm_core.specs.Potential.{pushed_in}
 use Rattle.onvm_core.proofs.Lists.{last_of_push}
 use Rattle.onvm_core.proofs.Once.{how_many-append}
 use Rattle.onvm_board.specs.Known.{has_room}
 use Rattle.onvm_board.specs.Rule.{Hand as Slots}
-use Rattle.onvm_board.specs.Tokens.{BoardView, Carries, TokenView, grown, parcel_in, token_after}
+use Rattle.onvm_board.specs.Tokens.{BoardView, TokenView, grown, parcel_in, token_after}
 use Rattle.onvm_board.proofs.Stretches.{grown_twice}
 use Rattle.desc_ring.specs.Ends.{SeesFull, SeesRoom, next_cell as next_cell_of}
 use Rattle.desc_ring.proofs.Roominess.{room_grown}
-use Rattle.nf_api.specs.Acts.{Acts, Narrows}
+use Rattle.nf_api.specs.Acts.{Acts}
 use Rattle.nf_api.specs.Tree.{Tree}
 use Rattle.onvm_promises.specs.Answers.{is_handled}
 use Rattle.onvm_promises.specs.Kept.{is_yield}
-use Rattle.onvm_promises.specs.Passes.{EndsBarred, EndsWithEmpties, is_weight_look, ran_dry, saw_full}
+use Rattle.onvm_promises.specs.Passes.{EndsWithEmpties, is_weight_look, saw_full}
 use Rattle.onvm_promises.specs.Passes.EndsBarred.{ABar}
 use Rattle.onvm_promises.specs.Roles.{setting_of}
 use Rattle.onvm_promises.proofs.Moving.{dry_more}
 use Rattle.nf_exec.specs.declared.station.Station.{Station}
-use Rattle.nf_exec.specs.declared.turn.Turn.{Turn}
-use Rattle.nf_exec.specs.declared.turn.Turn.TheVariants.{Handled, Barred, Dry, Wanting}
-use Rattle.nf_exec.specs.Handing.{HasGoneOn, IsUnmoved, by_handling, handled_parcel}
-use Rattle.nf_exec.specs.Serving.{AreDueEmpties, EndsBy, HasGlanced, HasPassedOn, HasSearched, IsServing, found_in, is_barred, is_handled_turn, is_wanting, kept_by}
-use Rattle.nf_exec.specs.Stations.{IsStation, IsToHandle, Stands, in_hand}
+use Rattle.nf_exec.specs.declared.turn.Turn.TheVariants.{Barred, Dry, Wanting}
+use Rattle.nf_exec.specs.Handing.{HasGoneOn, handled_parcel}
+use Rattle.nf_exec.specs.Serving.{HasGlanced, HasPassedOn, HasSearched, IsServing}
+use Rattle.nf_exec.specs.Stations.{IsToHandle, Stands}
 use Rattle.nf_exec.specs.Steps.{AreServiceSteps, DoesFrom, MayDo}
-use Rattle.nf_exec.specs.Steps.IsServiceStep.{AGlance, APop, APush}
+use Rattle.nf_exec.specs.Steps.IsServiceStep.{AGlance, APop}
 use Rattle.nf_exec.proofs.Doing.{does_append}
-use Rattle.nf_exec.proofs.Empties.{empties_budget, empties_do, empties_end, empties_hand, empties_journal, empties_no_yield, empties_popped, empties_pushed, empties_room, empties_steps, empties_unbarred, empties_unhandled, empties_unlooked, empties_unpushed}
+use Rattle.nf_exec.proofs.Empties.{empties_budget, empties_do, empties_end, empties_hand, empties_journal, empties_no_yield, empties_pushed, empties_room, empties_steps, empties_unbarred, empties_unhandled, empties_unlooked, empties_unpushed}
 
 -- the hand that a token has is the one that it grew by
 pub own_hand : (added : Log) (hand : Slots) (before after : TokenView) → after ≡ grown added hand before
@@ -317,8 +314,7 @@ module _ (site : BoardView) (plan : Plan) (f : FnId) (at first lanes : ℕ) (buf
   found_does entries =
       does_append (setting_of site.layout plan entries) before.role before.log (look ∷ []) (pop ∷ es)
       (glance_does site plan f at 0 before mid layout_of own at_is grew entries)
-      (subst (λ (log : Log). DoesFrom (setting_of site.layout plan entries) before.role log (pop ∷ es)) found_mid
-      (
+      (subst (λ (log : Log). DoesFrom (setting_of site.layout plan entries) before.role log (pop ∷ es)) found_mid (
         pop_does entries,
         empties_do site.layout f mid.log (setting_of site.layout plan entries) before.role refl
             (own_in site plan f at 0 before mid layout_of own at_is grew entries) es is.are,

@@ -1,30 +1,19 @@
 -- A role at work: what a service, or a sample, leaves of it.
-use Rattle.std.proofs.Common.{◌≡◌, ℕ, zero, suc, ◌+◌, ◌-◌, ◌<◌, ◌≤◌, Bool, true, false, inl, inr, List, [], ◌∷◌, ◌++◌, length, Some, None, Option, refl, sym, ap, ◌∙◌, subst, arith, append-nil, append_assoc}
+use Rattle.std.proofs.Common.{◌≡◌, ℕ, zero, suc, ◌+◌, ◌-◌, ◌<◌, ◌≤◌, true, false, inl, inr, List, [], ◌∷◌, ◌++◌, length, None, Option, refl, sym, ap, ◌∙◌, subst, arith}
 use Rattle.std.specs.Prelude.{is_some, ◌≢◌, ◌⊎◌, ◌==◌, ◌^◌, min, slice_get, slice_set, slice_index_or}
 use Rattle.std.proofs.lemmas.Bool.{true≢false}
 use Rattle.std.proofs.lemmas.Bool.Decides.{eqb_tells}
 use Rattle.std.proofs.lemmas.List.{get_or-set_other, length-set}
 use Rattle.std.proofs.lemmas.Grind.{get_or-set_at}
-use Rattle.onvm_base.specs.declared.ids.BufId.{BufId}
 use Rattle.onvm_base.specs.declared.ids.FnId.{FnId}
-use Rattle.onvm_base.specs.declared.ids.RingId.TheVariants.{Output, Mail}
 use Rattle.onvm_base.specs.declared.plan.Plan.{Plan}
-use Rattle.onvm_core.specs.declared.layout.Layout.{Layout}
-use Rattle.onvm_core.specs.declared.step.Act.TheVariants.{Push, Full}
-use Rattle.onvm_core.specs.declared.step.Item.TheVariants.{Number}
 use Rattle.onvm_core.specs.Blocks.{kind_of}
-use Rattle.onvm_core.specs.Blocks.RoleKind.{Handles}
 use Rattle.onvm_core.specs.Handling.{core_hand}
-use Rattle.onvm_core.specs.Journals.{journal, last_popped_parcel}
-use Rattle.onvm_core.specs.Layouts.{core_role}
+use Rattle.onvm_core.specs.Journals.{journal}
 use Rattle.onvm_core.specs.Logs.{Hand, Log}
 use Rattle.onvm_core.specs.Places.{how_many, one_if}
-use Rattle.onvm_core.specs.Potential.{pushed_in}
 use Rattle.onvm_core.proofs.Once.{how_many-append}
-use Rattle.onvm_board.specs.Known.{has_room}
-use Rattle.onvm_board.specs.Rule.{Hand as Slots}
 use Rattle.onvm_board.specs.Tokens.{BoardView, TokenView, grown}
-use Rattle.desc_ring.proofs.Roominess.{room_grown}
 use Rattle.nf_api.specs.Acts.{Acts}
 use Rattle.nf_api.specs.Tree.{Tree}
 use Rattle.onvm_promises.specs.Kept.{at_most_64_bits, is_lost, is_yield}
@@ -37,11 +26,10 @@ use Rattle.nf_exec.specs.declared.turn.Turn.TheVariants.{Handled, Barred, Dry, W
 use Rattle.nf_exec.specs.Handing.{HasGoneOn}
 use Rattle.nf_exec.specs.Roles.{IsAtWork, IsKept, KeepsOthers, counts_upto, times_are}
 use Rattle.nf_exec.specs.Roles.IsKept.{NoneKept, OneKept}
-use Rattle.nf_exec.specs.Serving.{IsService, IsTimedBy, is_barred, kept_by, sample_acts}
-use Rattle.nf_exec.specs.Stations.{AreFunctionsOf, AreStations, IsStation, IsToHandle, Stands, functions_of}
-use Rattle.nf_exec.specs.Steps.IsSampleStep.{AMail, ALoss}
-use Rattle.nf_exec.proofs.Elsewhere.{AreQuiet, AreSilent, quiet_journal, sample_elsewhere, sample_quiet, services_elsewhere, silent_quiet}
-use Rattle.nf_exec.proofs.Passing.{same_at, service, service_grew, service_steps, service_yields, unlost_steps}
+use Rattle.nf_exec.specs.Serving.{IsService, IsTimedBy, is_barred, kept_by}
+use Rattle.nf_exec.specs.Stations.{AreFunctionsOf, IsStation, Stands, functions_of}
+use Rattle.nf_exec.proofs.Elsewhere.{AreSilent, quiet_journal, services_elsewhere, silent_quiet}
+use Rattle.nf_exec.proofs.Passing.{service, service_grew, service_steps, service_yields, unlost_steps}
 use Rattle.nf_exec.proofs.Servings.{stood, went_on_then}
 use Rattle.nf_exec.proofs.Stationing.{station_over}
 

@@ -1,4 +1,3 @@
-pub mod Desks
 pub mod Handing
 pub mod Roles
 pub mod Rooms

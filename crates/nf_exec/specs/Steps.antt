@@ -1,5 +1,5 @@
 -- The acts of a core at one of its functions, and when each may come.
-use Rattle.std.specs.Prelude.{ℕ, ◌≡◌, ◌++◌, [], ◌∷◌, Option, Some, None}
+use Rattle.std.specs.Prelude.{ℕ, ◌++◌, [], ◌∷◌, Option, Some, None}
 use Rattle.onvm_base.specs.declared.ids.BufId.{BufId}
 use Rattle.onvm_base.specs.declared.ids.FnId.{FnId}
 use Rattle.onvm_base.specs.declared.ids.RingId.TheVariants.{Lane, Output, Mail}

@@ -198,7 +198,10 @@ fn twenty_five_frames_come_in_by_bursts_and_meet_a_full_lane(rt: HostRuntime) ->
     let plan = plan(rt.alloc(), 1024, 1_000_000, 0)?;
     let feed = Feed::Made(Generator::make(7, 25));
     let (answers, fault, kept) = receive(rt.alloc(), &plan, feed)?;
-    assert_eq!(rt; answers, [Pass::Did(8), Pass::Did(8), Pass::Did(8), Pass::Did(1)]);
+    assert_eq!(rt;
+        answers,
+        [Pass::Did(8), Pass::Did(8), Pass::Did(8), Pass::Did(1)]
+    );
     assert_eq!(rt; fault, None);
     assert_eq!(rt; counts(&kept), [0, 0, 9, 0]);
     Ok(())
@@ -209,7 +212,10 @@ fn at_the_high_mark_frames_are_held_back(rt: HostRuntime) -> Result<(), Fail> {
     let plan = plan(rt.alloc(), 1024, 0, 0)?;
     let feed = Feed::Made(Generator::make(7, 20));
     let (answers, _, kept) = receive(rt.alloc(), &plan, feed)?;
-    assert_eq!(rt; answers, [Pass::Did(8), Pass::Did(8), Pass::Did(4), Pass::Idle]);
+    assert_eq!(rt;
+        answers,
+        [Pass::Did(8), Pass::Did(8), Pass::Did(4), Pass::Idle]
+    );
     assert_eq!(rt; counts(&kept), [0, 4, 0, 0]);
     assert_eq!(rt; kept.posts.len(), 1);
     Ok(())
@@ -268,7 +274,10 @@ fn frames_before_a_failed_take_have_their_blocks(rt: HostRuntime) -> Result<(), 
     let plan = plan(rt.alloc(), 8, 1_000_000, 1)?;
     let feed = Feed::Live(input_of(rt.alloc(), &TORN, &[2])?);
     let (answers, fault, kept) = receive(rt.alloc(), &plan, feed)?;
-    assert_eq!(rt; answers, [Pass::Stopped, Pass::Stopped, Pass::Stopped, Pass::Stopped]);
+    assert_eq!(rt;
+        answers,
+        [Pass::Stopped, Pass::Stopped, Pass::Stopped, Pass::Stopped]
+    );
     assert_eq!(rt; fault, Some(FeedFault::Read));
     assert_eq!(rt; counts(&kept), [2, 0, 0, 0]);
     assert!(rt; matches!(kept.feed, Some(Feed::Live(_))));

@@ -1,15 +1,13 @@
-use Rattle.std.proofs.Common.{◌≡◌, ℕ, ◌+◌, ◌<◌, ◌≤◌, ◌∙◌, Some, None, false, refl, sym, ap, subst, arith, List, length, slice_set}
-use Rattle.std.specs.Prelude.{is_some, slice_get, slice_index_or}
+use Rattle.std.proofs.Common.{◌≡◌, ℕ, ◌∙◌, Some, refl, sym, ap, subst, arith, List, slice_set}
+use Rattle.std.specs.Prelude.{is_some, slice_get}
 use Rattle.onvm_base.specs.declared.ids.FnId.{FnId}
 use Rattle.onvm_core.specs.Handling.{core_hand}
-use Rattle.onvm_board.specs.Tokens.{TokenView}
 use Rattle.onvm_promises.specs.Sampling.{cost_of}
-use Rattle.nf_exec.specs.declared.role.Kept.{Kept}
 use Rattle.nf_exec.specs.declared.station.Station.{Station}
-use Rattle.nf_exec.specs.Roles.{IsAtWork, IsKept, counts_upto, times_are}
+use Rattle.nf_exec.specs.Roles.{IsKept, counts_upto}
 use Rattle.nf_exec.specs.Serving.{IsTimedBy}
 use Rattle.nf_exec.specs.Stations.{functions_of}
-use Rattle.nf_exec.proofs.Keeping.{counts_one, held_some, kept_at, kept_carried, no_times, on_any_err, passed_free, passing_first, passing_none, rested, work_passed, work_unmoved}
+use Rattle.nf_exec.proofs.Keeping.{counts_one, held_some, kept_at, kept_carried, no_times, on_any_err, passing_first, passing_none, rested, work_passed, work_unmoved}
 use Rattle.nf_exec.proofs.Mailing.{set_same}
 use Rattle.nf_exec.proofs.Passing.{same_at}
 use Rattle.nf_exec.proofs.Working.{keeps_set, kept_free, more_counts, times_set}

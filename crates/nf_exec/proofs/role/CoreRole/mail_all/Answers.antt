@@ -1,5 +1,4 @@
-use Rattle.std.proofs.Common.{◌≡◌, ℕ, ◌+◌, ◌<◌, ◌≤◌, ◌∙◌, refl, sym, ap, subst, arith, List, length}
-use Rattle.std.specs.Prelude.{slice_index_or}
+use Rattle.std.proofs.Common.{◌<◌, ◌∙◌, refl, subst, arith, List, length}
 use Rattle.nf_exec.specs.declared.station.Station.{Station}
 use Rattle.nf_exec.specs.Roles.{HasMailed}
 use Rattle.nf_exec.proofs.Mailing.{done_next, mailed_next, mailed_none, rest_next}

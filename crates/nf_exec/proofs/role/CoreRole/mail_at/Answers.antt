@@ -1,4 +1,4 @@
-use Rattle.std.proofs.Common.{◌≡◌, ℕ, ◌+◌, ◌-◌, ◌^◌, refl, arith, ap, ◌∙◌, sym}
+use Rattle.std.proofs.Common.{◌≡◌, ℕ, ◌+◌, ◌-◌, ◌^◌, refl, ap, ◌∙◌, sym}
 use Rattle.std.specs.Prelude.{min}
 use Rattle.onvm_core.specs.Places.{one_if}
 use Rattle.nf_exec.proofs.Mailing.{work_mailed}

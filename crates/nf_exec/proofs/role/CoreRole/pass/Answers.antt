@@ -1,7 +1,6 @@
-use Rattle.std.proofs.Common.{◌≡◌, ℕ, ◌+◌, ◌∙◌, not, refl, sym, ap, subst, arith, List, length}
+use Rattle.std.proofs.Common.{ℕ, ◌+◌, ◌∙◌, not, sym, ap, subst, arith, List}
 use Rattle.onvm_base.specs.declared.ids.FnId.{FnId}
 use Rattle.nf_exec.specs.Roles.{IsPassing}
-use Rattle.nf_exec.specs.Stations.{functions_of}
 use Rattle.nf_exec.proofs.Promising.{promise, role_kept, wanting_promise, wanting_role}
 use Rattle.nf_exec.proofs.Working.{as_long}
 use Rattle.nf_exec.proofs.role.CoreRole.pass.Goals as goal

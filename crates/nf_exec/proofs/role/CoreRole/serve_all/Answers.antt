@@ -1,4 +1,4 @@
-use Rattle.std.proofs.Common.{◌≡◌, ℕ, ◌+◌, ◌*◌, ◌<◌, ◌≤◌, ◌∙◌, refl, sym, ap, subst, arith, List, length}
+use Rattle.std.proofs.Common.{ℕ, ◌+◌, ◌<◌, ◌∙◌, sym, ap, subst, arith, List, length}
 use Rattle.std.specs.Prelude.{slice_index_or}
 use Rattle.onvm_base.specs.declared.ids.FnId.{FnId}
 use Rattle.nf_exec.specs.declared.station.Station.{Station}

@@ -1,13 +1,10 @@
-use Rattle.std.proofs.Common.{◌≡◌, ℕ, ◌+◌, ◌-◌, ◌^◌, ◌∷◌, [], ◌∙◌, refl, sym, ap, subst, arith, List, slice_set, Some, None, Option}
-use Rattle.std.specs.Prelude.{min, ◌≤◌, slice_get}
+use Rattle.std.proofs.Common.{◌≡◌, ℕ, ◌+◌, ◌-◌, ◌^◌, ◌∙◌, refl, sym, ap, subst, slice_set, Some}
+use Rattle.std.specs.Prelude.{min, slice_get}
 use Rattle.onvm_base.specs.declared.ids.FnId.{FnId}
-use Rattle.onvm_core.specs.Logs.{Hand}
 use Rattle.onvm_core.specs.Places.{one_if}
 use Rattle.onvm_board.specs.Tokens.{parcel_in}
 use Rattle.onvm_promises.specs.Sampling.{cost_of}
-use Rattle.nf_exec.specs.declared.role.Kept.{Kept}
 use Rattle.nf_exec.specs.declared.turn.Turn.{Turn}
-use Rattle.nf_exec.specs.declared.turn.Turn.TheVariants.{Wanting}
 use Rattle.nf_exec.specs.Roles.{IsKept}
 use Rattle.nf_exec.specs.Roles.IsKept.{OneKept}
 use Rattle.nf_exec.specs.Serving.{IsTimedBy, is_barred, kept_by}

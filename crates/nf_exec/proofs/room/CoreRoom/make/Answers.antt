@@ -1,8 +1,7 @@
-use Rattle.std.proofs.Common.{◌≡◌, ℕ, ◌+◌, ◌<◌, ◌∙◌, refl, sym, ap, subst, arith, List, length, take}
+use Rattle.std.proofs.Common.{◌<◌, ◌∙◌, ap, subst, arith, List, length}
 use Rattle.std.specs.Prelude.{slice_index_or}
 use Rattle.std.proofs.lemmas.Option.{slice_get_within}
 use Rattle.onvm_base.specs.declared.ids.FnId.{FnId}
-use Rattle.nf_exec.specs.Rooms.{AreNewStations}
 use Rattle.nf_exec.proofs.Rooming.{at_any, resident_at, stations_next}
 use Rattle.nf_exec.proofs.room.CoreRoom.make.Goals as goal
 

@@ -1,4 +1,4 @@
-use Rattle.std.proofs.Common.{◌≡◌, ◌∙◌, refl, sym, ap, length}
+use Rattle.std.proofs.Common.{◌∙◌, refl, ap, length}
 use Rattle.nf_exec.proofs.Rooming.{role_begins}
 use Rattle.nf_exec.proofs.room.CoreRoom.start.Goals as goal
 

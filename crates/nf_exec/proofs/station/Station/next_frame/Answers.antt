@@ -1,4 +1,4 @@
-use Rattle.std.proofs.Common.{◌≡◌, ℕ, ◌+◌, ◌%◌, ◌<◌, ◌∷◌, [], length, None, Some, ap, ◌∙◌, sym, subst, arith, refl}
+use Rattle.std.proofs.Common.{◌≡◌, ◌%◌, ◌<◌, ◌∷◌, [], length, None, Some, ap, ◌∙◌, subst, arith}
 use Rattle.onvm_base.specs.declared.ids.FnId.{FnId}
 use Rattle.onvm_core.specs.Layouts.{feeder_count}
 use Rattle.onvm_core.specs.Places.{how_many}
@@ -46,9 +46,9 @@ loop-preserved c =
       empty_handed = c.in_default.ensures.none;
       same = c.in_default.ensures.same
           ∙ ap (λ (s : Station). record s {
-        lanes = c.try_lane.new.self.lanes;
-        next = c.try_lane.new.self.next;
-      }) was.same;
+            lanes = c.try_lane.new.self.lanes;
+            next = c.try_lane.new.self.next;
+          }) was.same;
     }
 
 pub returns-clause-searched : goal.returns-clause-searched

@@ -1,4 +1,4 @@
-use Rattle.std.proofs.Common.{◌≡◌, [], None}
+use Rattle.std.proofs.Common.{◌≡◌, []}
 use Rattle.nf_exec.specs.Serving.{HasTried}
 use Rattle.nf_exec.specs.Stations.{IsStation}
 use Rattle.nf_exec.proofs.station.Station.next_frame.Given as goal

@@ -1,7 +1,6 @@
-use Rattle.std.proofs.Common.{◌≡◌, ℕ, ◌+◌, ◌<◌, ap, ◌∙◌, sym, subst, refl, arith}
+use Rattle.std.proofs.Common.{◌≡◌, ℕ, ◌<◌, ◌∙◌, subst, refl, arith}
 use Rattle.std.specs.Prelude.{slice_get}
 use Rattle.onvm_base.specs.declared.ids.FnId.{FnId}
-use Rattle.onvm_core.specs.Handling.{budget_left}
 use Rattle.onvm_core.specs.Places.{one_if}
 use Rattle.onvm_promises.specs.Sampling.{cost_of}
 use Rattle.nf_exec.specs.declared.turn.Turn.TheVariants.{Handled}

@@ -1,12 +1,9 @@
-use Rattle.std.proofs.Common.{◌≡◌, ap, ◌∙◌, sym, subst, refl, Some}
-use Rattle.std.specs.Prelude.{◌<◌}
+use Rattle.std.proofs.Common.{◌≡◌, ap, ◌∙◌, sym, subst, refl}
 use Rattle.onvm_base.specs.declared.ids.FnId.{FnId}
 use Rattle.onvm_core.specs.Journals.{journal}
-use Rattle.onvm_core.specs.Logs.{Log}
 use Rattle.onvm_board.specs.Tokens.{TokenView, parcel_in}
 use Rattle.nf_exec.specs.declared.station.Station.{Station}
 use Rattle.nf_exec.specs.declared.turn.Turn.TheVariants.{Wanting}
-use Rattle.nf_exec.specs.Handing.{HasGoneOn}
 use Rattle.nf_exec.specs.Serving.{HasPassedOn, IsServing}
 use Rattle.nf_exec.specs.Stations.{IsToHandle}
 use Rattle.nf_exec.proofs.Servings.{serving_passed, stood, stood_still, went_on_then}
