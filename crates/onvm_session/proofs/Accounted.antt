@@ -156,7 +156,7 @@ always_bounded layout (step ∷ before) lawful =
 
 -- What the logs say, said of the history
 
-blocks_of : (serial : Bool) (setting : Setting) (final : FinalView) (past : History)
+pub blocks_of : (serial : Bool) (setting : Setting) (final : FinalView) (past : History)
     → IsHistoryOf setting.layout final past → IsLead serial setting.layout final.lead
     → ((role : ℕ) → role < first_role setting.layout → IsOfBlocks setting role (final.logs role))
     → AllOfBlocks setting past
@@ -175,7 +175,7 @@ feeder_first : (layout : Layout) (feeder : ℕ) → IsFeeder layout feeder → f
 feeder_first layout feeder known = omega (arith, known)
 
 -- what acts tell without their moments
-log_told : {A : Type 0} (tell : Act → List A) (moment : ℕ → ℕ) (log : Log)
+pub log_told : {A : Type 0} (tell : Act → List A) (moment : ℕ → ℕ) (log : Log)
     → kept_at (λ m. tell) moment log ≡ gathered_of_log tell log
 log_told tell moment [] = refl
 log_told tell moment (act ∷ before) = ap (λ xs. xs ++ tell act) (log_told tell moment before)
@@ -211,7 +211,7 @@ gathered_of test tell setting moments final past is quiet =
     ap (λ (log : Log). how_many test (gathered_of_log tell log)) (sym (is.logs role less))
     ∙ ap (how_many test) (sym (log_told tell (moments role) (final.logs role))))
 
-many_of : (serial : Bool) (setting : Setting) (moments : ℕ → ℕ → ℕ) (final : FinalView) (past : History)
+pub many_of : (serial : Bool) (setting : Setting) (moments : ℕ → ℕ → ℕ) (final : FinalView) (past : History)
     → IsHistoryOf setting.layout final past → IsLead serial setting.layout final.lead
     → (test : Record → Bool)
     → how_many test (records_in past) ≡ all_told test records_by moments final.logs (first_role setting.layout)
@@ -220,7 +220,7 @@ many_of serial setting moments final past is lead test =
     ∙ gathered_of test records_of_act setting moments final past is
     (led_tells (moments (first_role setting.layout)) final.lead (led serial setting.layout final.lead lead))
 
-sent_of : (serial : Bool) (setting : Setting) (moments : ℕ → ℕ → ℕ) (final : FinalView) (past : History)
+pub sent_of : (serial : Bool) (setting : Setting) (moments : ℕ → ℕ → ℕ) (final : FinalView) (past : History)
     → IsHistoryOf setting.layout final past → IsLead serial setting.layout final.lead
     → (test : SentFrame → Bool)
     → how_many test (sent_frames_in past) ≡ all_told test sent_by moments final.logs (first_role setting.layout)

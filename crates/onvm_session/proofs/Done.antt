@@ -86,9 +86,6 @@ module _ {S : Type 0} (serial : Bool) (may_tell : ℕ → Type 0) (acts : ℕ �
     (session : IsSession serial may_tell acts start state cost_may_take setting moments first latest final keeps)
     (closes : Closes serial may_tell setting moments first latest final keeps seen now after kept run)
     (closed : IsClosed setting run)
-    (lists : HasLists setting (closing_moments setting moments final now) run)
-    (recorded : all_told (λ told. true) records_by (closing_moments setting moments final now) run.final.logs
-    (first_role setting.layout) ≡ frame_count setting)
   where
     abbrev tick : ℕ
     tick = tick_role setting.layout
@@ -138,9 +135,9 @@ module _ {S : Type 0} (serial : Bool) (may_tell : ℕ → Type 0) (acts : ℕ �
         ++ final.logs tick) final.logs)) tick kind
         (final.logs tick) passed.added) (kind_tick setting.layout) whole
 
-    roles : (r : ℕ) → r < first_role setting.layout
-        → IsRoleSoFar acts start state cost_may_take setting r (kind_of setting.layout r) (last_moments r)
-        (run.final.logs r) (with_keeps tick kept keeps r)
+    pub roles : (r : ℕ) → r < first_role setting.layout
+        → IsRoleSoFar acts start state cost_may_take setting r (kind_of setting.layout r)
+        (closing_moments setting moments final now r) (run.final.logs r) (with_keeps (tick_role setting.layout) kept keeps r)
     roles =
         subst (λ (logs : ℕ → Log). (r : ℕ) → r < first_role setting.layout
         → IsRoleSoFar acts start state cost_may_take setting r (kind_of setting.layout r) (last_moments r) (logs r)
@@ -176,7 +173,7 @@ module _ {S : Type 0} (serial : Bool) (may_tell : ℕ → Type 0) (acts : ℕ �
         phased_lead may_tell setting moments final seen
         (subst (λ (b : Bool). IsSoFar b may_tell setting moments final) e session.so_far)
 
-    lead : IsLead serial setting.layout run.final.lead
+    pub lead : IsLead serial setting.layout run.final.lead
     lead = subst (λ (v : FinalView). IsLead serial setting.layout v.lead) (sym view) (lead_by serial refl)
 
     turned : serial ≡ true → HasTurns setting last_moments run.final
@@ -230,8 +227,10 @@ module _ {S : Type 0} (serial : Bool) (may_tell : ℕ → Type 0) (acts : ℕ �
         (roles (core_role setting.layout f.0)
         (omega (arith, ranges.core_of f.0 0 (omega (arith, ranges.places, ranges.functions.1, known)))))
 
-    has_ended : HasEnded serial may_tell acts start setting last_moments run
-    has_ended = record {
+    has_ended : all_told (λ told. true) records_by last_moments run.final.logs (first_role setting.layout)
+        ≡ frame_count setting
+        → HasEnded serial may_tell acts start setting last_moments run
+    has_ended recorded = record {
       lead = lead;
       blocks = λ role known.
           so_far_blocks acts start state cost_may_take setting role (kind_of setting.layout role) (last_moments role)
@@ -354,7 +353,10 @@ module _ {S : Type 0} (serial : Bool) (may_tell : ℕ → Type 0) (acts : ℕ �
     }
 
     -- the headline
-    pub done : IsAccounted serial may_tell cost_may_take acts start setting run
-    done =
-        accounted serial may_tell cost_may_take acts start setting last_moments run ranges is_setting closed has_ended
-        lists shares
+    pub done : HasLists setting (closing_moments setting moments final now) run
+        → all_told (λ told. true) records_by (closing_moments setting moments final now) run.final.logs
+        (first_role setting.layout) ≡ frame_count setting
+        → IsAccounted serial may_tell cost_may_take acts start setting run
+    done lists recorded =
+        accounted serial may_tell cost_may_take acts start setting last_moments run ranges is_setting closed
+        (has_ended recorded) lists shares

@@ -1,5 +1,7 @@
 pub mod Accounts
+pub mod Boards
 pub mod Endings
+pub mod Gathering
 pub mod Lists
 pub mod Moments
 pub mod SerialTicks

@@ -1,17 +1,25 @@
 //! What holds of a session from turn to turn and from phase to phase, and what follows at its end.
 //!
 //! Each function went from its `start` to its `state`. The laws hold in all surroundings.
-ghost use Rattle.std.specs.Prelude.{◌≡◌, ◌<◌, ◌≤◌, Bool, true, false, ℕ, None, length};
+ghost use Rattle.std.specs.Prelude.{◌≡◌, ◌<◌, ◌≤◌, Bool, true, false, ℕ, List, None, length};
 ghost use Rattle.onvm_core.specs.Blocks.{kind_of};
 ghost use Rattle.onvm_core.specs.History.{History};
 ghost use Rattle.onvm_core.specs.Layouts.{IsLayout, first_role, tick_role};
 ghost use Rattle.onvm_core.specs.Logs.{Log, Setting};
 ghost use Rattle.onvm_core.specs.Settings.{IsSetting, frame_count};
+ghost use Rattle.onvm_core.specs.Potential.{sum_below};
+ghost use Rattle.onvm_core.specs.declared.entry.Entry.{Entry};
+ghost use Rattle.onvm_core.specs.declared.step.Act.{Act};
+ghost use Rattle.onvm_promises.specs.Roles.{Fits};
+ghost use Rattle.onvm_board.specs.Closing.{ClosedView, IsEndOf};
+ghost use Rattle.onvm_board.specs.Tokens.{BoardView, EndsHistory, TokenView};
 ghost use Rattle.onvm_promises.specs.declared.pass.Pass.{Pass};
 ghost use Rattle.onvm_promises.specs.Answers.{is_complete};
 ghost use Rattle.onvm_promises.specs.Kept.{moment_then, records_by};
 ghost use Rattle.onvm_session.specs.Accounts.{IsAccounted, RunView};
+ghost use Rattle.onvm_session.specs.Boards.{token_after_turn, view_of_closed, view_of_token};
 ghost use Rattle.onvm_session.specs.Endings.{Closes, HasLists, IsClosed, closing_moments};
+ghost use Rattle.onvm_session.specs.Gathering.{AreRunLists, recorded_count};
 ghost use Rattle.onvm_session.specs.Lists.{all_told};
 ghost use Rattle.onvm_session.specs.Moments.{moment_of_round, round_of_turn};
 ghost use Rattle.onvm_session.specs.Sessions.{AllTold, AreTicksKept, IsRolePass, IsRoleSoFar, IsSession, Keeps, OthersKeep, after_phase, after_turn, with_keeps, with_moment};
@@ -90,6 +98,67 @@ pub fn headline<S, W: Surroundings<S>>(world: &W)
         → all_told (λ told. true) records_by (closing_moments setting moments final now)
         run.final.logs (first_role setting.layout) ≡ frame_count setting
         → IsAccounted serial (W.may_tell world.now) (W.cost_may_take world.now) (W.acts world.now) start setting run }
+{}
+
+/// What a session's roles kept, put together, are the lists that the headline asks for.
+pub fn lists_of_roles<S, W: Surroundings<S>>(world: &W)
+    ensures { (serial : Bool) (start state : ℕ → S)
+        (setting : Setting) (moments : ℕ → ℕ → ℕ)
+        (first latest : ℕ) (final : FinalView) (keeps : ℕ → Keeps) (seen now : ℕ) (after : Log)
+        (kept : Keeps) (run : RunView) → IsLayout setting.layout → IsSetting setting
+        → IsSession serial (W.may_tell world.now) (W.acts world.now) start state
+        (W.cost_may_take world.now) setting moments first latest
+        final keeps
+        → Closes serial (W.may_tell world.now) setting moments first latest final keeps seen now after kept run
+        → IsClosed setting run
+        → AreRunLists setting.layout keeps run
+        → HasLists setting (closing_moments setting moments final now) run }
+{}
+
+/// How many records there are is the sum of what the feeders kept, also behind the closing turn; and
+/// how many frames, where each capture was pulled to its end, the sum of what was pulled.
+pub fn records_are_counted<S, W: Surroundings<S>>(world: &W)
+    ensures kept { (serial : Bool) (start state : ℕ → S) (setting : Setting) (moments : ℕ → ℕ → ℕ)
+        (first latest : ℕ) (final : FinalView) (keeps : ℕ → Keeps)
+        → IsSession serial (W.may_tell world.now) (W.acts world.now) start state
+        (W.cost_may_take world.now) setting moments first latest
+        final keeps
+        → all_told (λ told. true) records_by moments final.logs (first_role setting.layout)
+        ≡ recorded_count setting.layout keeps }
+    ensures closed { (serial : Bool) (start state : ℕ → S) (setting : Setting) (moments : ℕ → ℕ → ℕ)
+        (first latest : ℕ) (final : FinalView) (keeps : ℕ → Keeps) (seen now : ℕ) (after : Log)
+        (kept : Keeps) (run : RunView) → IsLayout setting.layout → IsSetting setting
+        → IsSession serial (W.may_tell world.now) (W.acts world.now) start state
+        (W.cost_may_take world.now) setting moments first latest
+        final keeps
+        → Closes serial (W.may_tell world.now) setting moments first latest final keeps seen now after kept run
+        → IsClosed setting run
+        → all_told (λ told. true) records_by (closing_moments setting moments final now)
+        run.final.logs (first_role setting.layout)
+        ≡ recorded_count setting.layout keeps }
+    ensures pulled { (setting : Setting) (pulled : ℕ → List Entry)
+        → ((port : ℕ) → port < setting.layout.ports
+        → Fits setting.layout setting.plan port (pulled port) true setting)
+        → frame_count setting ≡ sum_below (λ port. length (pulled port)) setting.layout.ports }
+{}
+
+/// What a closed board keeps, and how many buffers it says are left, is what the headline asks of a
+/// closed board.
+pub fn a_closed_board_is_closed()
+    ensures { (setting : Setting) (closed : ClosedView) (past : History) (run : RunView)
+        → closed.layout ≡ setting.layout → IsEndOf closed past
+        → run.final ≡ view_of_closed closed → run.left ≡ closed.left
+        → IsClosed setting run }
+{}
+
+/// The first token's view after a turn is the view before with the turn's acts; and where a look
+/// told it that its logs are of one lawful history, its view is that history's.
+pub fn the_first_token_has_the_view()
+    ensures turn { (role seen : ℕ) (other token : TokenView) → other.role ≡ role → role < length token.logs
+        → view_of_token (token_after_turn role seen other token)
+        ≡ after_turn role seen other.log (view_of_token token) }
+    ensures settled { (site : BoardView) (act : Act) (token : TokenView) → EndsHistory site act token
+        → (past : History) × IsHistoryOf site.layout (view_of_token token) past }
 {}
 
 /// Where one role at a time is split, the final view tells the order of all the roles' steps: so two

@@ -9,6 +9,10 @@
 #![tactic(auto)]
 
 pub mod laws;
+mod lists;
 mod surroundings;
+#[cfg(test)]
+mod tests;
 
+pub use lists::{Gathered, RunLists};
 pub use surroundings::Surroundings;

@@ -1,0 +1,10 @@
+pub mod Examples
+pub mod Mailing
+pub mod Residing
+pub mod Sharing
+pub mod Windowing
+pub mod Ordering
+pub mod Takes
+pub mod Tells
+pub mod Promising
+pub mod Working

@@ -1,0 +1,4 @@
+pub mod Examples
+pub mod Roles
+pub mod Taking
+pub mod Telling
