@@ -1,5 +1,6 @@
 pub mod Afterwards
 pub mod Entering
+pub mod Examples
 pub mod Inlets
 pub mod Noted
 pub mod Parts
