@@ -1,11 +1,24 @@
-//! The program `pass_bench`: measures what a pass costs.
+//! The program `pass_bench`: measures what passes of roles cost for each frame, beside the board's own
+//! steps, and what passes of the tick role cost.
 #![tactic(auto)]
 
+mod cost;
+mod frames;
+mod passes;
+mod plans;
+mod roles;
+mod steps;
 mod ticks;
 
 use onvm_base::NoMemory;
+use onvm_board::Board;
+use onvm_core::Layout;
+use onvm_host::SysClock;
+use passes::cost_of_passes;
+use plans::plan;
 use std::env;
 use std::process::ExitCode;
+use steps::cost_of_steps;
 use ticks::measure_ticks;
 
 fn main(rt: HostRuntime) -> ExitCode {
@@ -30,8 +43,27 @@ fn rounds(rt: &HostRuntime) -> Option<u32> {
 }
 
 fn measure_all(rt: &HostRuntime, rounds: u32) -> Result<(), NoMemory> {
+    measure(rt, rounds)?;
     for functions in [2, 8, 32] {
         measure_ticks(rt, functions, rounds)?;
     }
+    Ok(())
+}
+
+// Prints what a frame costs that transmit passes move and send, and the same by the board's own steps.
+fn measure(rt: &HostRuntime, rounds: u32) -> Result<(), NoMemory> {
+    let clock = SysClock::make(*rt);
+    let plan = plan(rt.alloc())?;
+    let layout = Layout::of(&plan);
+    let (board, mut lead) = Board::make(rt.alloc(), &layout)?;
+    let passes = cost_of_passes(rt.alloc(), &plan, &board, &mut lead, &clock, rounds)?;
+    let (board, mut lead) = Board::make(rt.alloc(), &layout)?;
+    let steps = cost_of_steps(rt.alloc(), &plan, &board, &mut lead, &clock, rounds)?;
+    steps.moved.print(rt, "pop, cursor and push alone");
+    passes
+        .moved
+        .print(rt, "a frame that a transmit pass moves to a lane");
+    steps.sent.print(rt, "pop and give alone");
+    passes.sent.print(rt, "a frame that a transmit pass sends");
     Ok(())
 }

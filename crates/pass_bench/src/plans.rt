@@ -1,0 +1,83 @@
+//! The plan of the board: three functions on two cores, and two chains.
+ghost use Rattle.std.specs.Prelude.{◌≡◌, [], ◌∷◌, IfOk};
+ghost use Rattle.nf_registry.specs.Examples.{chain_of, function_of, three_functions, two_chains};
+ghost use Rattle.tx_pass.specs.Examples.{IsTestPlan};
+
+use onvm_base::{
+    ChainId, ChainList, ChainPlan, ChainStep, FunctionList, FunctionPlan, Kind, ListOf, Name,
+    NoMemory, Plan,
+};
+use std::alloc::Global;
+
+fn function(alloc: Global, letter: u8, service: u8, core: u8) -> Result<FunctionPlan, NoMemory>
+    ensures { IfOk result (λ function. function ≡ function_of letter service core) }
+{
+    Ok(FunctionPlan {
+        name: Name::from_slice(alloc, &[letter])?,
+        service,
+        core,
+        kind: Kind::Forward,
+        priority: 1,
+        weight: 1024,
+        cost: 100,
+    })
+}
+
+fn functions(alloc: Global) -> Result<FunctionList, NoMemory>
+    ensures { IfOk result (λ functions. functions ≡ three_functions) }
+{
+    let mut functions = ListOf::make(alloc);
+    functions.push(function(alloc, b'a', 5, 0)?)?;
+    functions.push(function(alloc, b'b', 6, 1)?)?;
+    functions.push(function(alloc, b'c', 7, 0)?)?;
+    Ok(functions)
+}
+
+fn chain(alloc: Global, letter: u8, steps: &[ChainStep]) -> Result<ChainPlan, NoMemory>
+    ensures { IfOk result (λ chain. chain ≡ chain_of letter steps.now) }
+{
+    Ok(ChainPlan {
+        name: Name::from_slice(alloc, &[letter])?,
+        steps: ListOf::from_slice(alloc, steps)?,
+    })
+}
+
+fn chains(alloc: Global) -> Result<ChainList, NoMemory>
+    ensures { IfOk result (λ chains. chains ≡ two_chains) }
+{
+    let mut chains = ListOf::make(alloc);
+    chains.push(chain(alloc, b'x', &[ChainStep::To(5), ChainStep::To(6)])?)?;
+    chains.push(chain(
+        alloc,
+        b'y',
+        &[ChainStep::Out(0), ChainStep::To(7), ChainStep::To(6)],
+    )?)?;
+    Ok(chains)
+}
+
+/// Lanes of 128 with a high mark of 96 and an age of 100 microseconds, and bursts of 32.
+pub fn plan(alloc: Global) -> Result<Plan, NoMemory>
+    ensures { IfOk result (λ plan. IsTestPlan plan) }
+{
+    let functions = functions(alloc)?;
+    let chains = chains(alloc)?;
+    Ok(Plan {
+        version: 1,
+        ports: 1,
+        transmit: 2,
+        cores: 2,
+        buffers: 1024,
+        ring: 128,
+        output: 128,
+        burst: 32,
+        high: 96,
+        low: 32,
+        age: 100_000,
+        window: 100_000_000,
+        tick: 10_000_000,
+        functions,
+        chains,
+        rules: ListOf::make(alloc),
+        default: ChainId(0),
+    })
+}

@@ -1,0 +1,13 @@
+use Rattle.std.proofs.Common.{sym, subst}
+use Rattle.tx_pass.specs.declared.role.TxRole.{TxRole}
+use Rattle.tx_pass.specs.Roles.{IsTxRole}
+use Rattle.tx_pass.proofs.tests.roles.Sender.start.Goals as goal
+
+pub returns : goal.returns
+returns c =
+    let fresh = c.requires.fresh in record {
+      sends =
+          subst (λ (role : TxRole). IsTxRole c.args.board.now c.args.plan.now c.args.token role)
+          (sym c.start-role.ensures)
+          (c.in_ok-make.ensures.ready c.args.token fresh.board fresh.role_is fresh.log fresh.empty_handed);
+    }
