@@ -1,5 +1,5 @@
 -- A feeder takes note of pushes, stretch after stretch.
-use Rattle.std.proofs.Common.{◌≡◌, ℕ, ◌<◌, ◌≤◌, [], ◌∷◌, ◌++◌, length, sym, ap, ◌∙◌, subst, refl, arith, append_assoc, length-append}
+use Rattle.std.proofs.Common.{◌≡◌, ℕ, ◌<◌, [], ◌∷◌, ◌++◌, length, sym, ap, ◌∙◌, subst, refl, arith, append_assoc, length-append}
 use Rattle.onvm_core.specs.declared.step.Act.TheVariants.{Push}
 use Rattle.onvm_core.specs.declared.step.Item.{Item}
 use Rattle.onvm_core.specs.Logs.{Log}
@@ -13,7 +13,7 @@ use Rattle.entry_throttle.specs.Looks.{lane}
 use Rattle.entry_throttle.specs.Moments.{KeepsMoments}
 use Rattle.entry_throttle.proofs.OtherActs.{moments_grown}
 use Rattle.entry_throttle.proofs.Pushes.{moments_after_push}
-use Rattle.tx_pass.specs.Noting.{AreMadeAt, HasNoted}
+use Rattle.tx_pass.specs.Noting.{HasNoted}
 
 -- acts that push nothing on the feeder's lanes
 pub noted_none : (now : ℕ) (added before : Log) (feeder : FeederView)

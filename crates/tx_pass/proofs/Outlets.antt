@@ -1,15 +1,14 @@
 -- An outlet, heads and room as their token's log grows.
-use Rattle.std.proofs.Common.{◌≡◌, ℕ, suc, Bool, true, false, ◌+◌, ◌-◌, ◌*◌, ◌<◌, ◌≤◌, List, [], ◌∷◌, ◌++◌, length, sym, ap, ◌∙◌, subst, refl, arith}
+use Rattle.std.proofs.Common.{◌≡◌, ℕ, suc, Bool, true, false, ◌+◌, ◌-◌, ◌*◌, ◌<◌, ◌≤◌, List, [], ◌++◌, length, sym, ap, ◌∙◌, subst, refl, arith}
 use Rattle.std.specs.Prelude.{◌≢◌}
 use Rattle.std.proofs.Math.Nat.{suc-mul}
 use Rattle.std.proofs.lemmas.List.{append-nil}
 use Rattle.onvm_base.specs.declared.ids.BufId.{BufId}
 use Rattle.onvm_base.specs.declared.ids.FnId.{FnId}
 use Rattle.onvm_base.specs.declared.ids.RingId.{RingId}
-use Rattle.onvm_base.specs.declared.ids.RingId.TheVariants.{Lane, Output}
+use Rattle.onvm_base.specs.declared.ids.RingId.TheVariants.{Output}
 use Rattle.onvm_core.specs.declared.layout.Word.TheVariants.{Post as PostWord}
 use Rattle.onvm_core.specs.declared.parcel.Parcel.{Parcel}
-use Rattle.onvm_core.specs.Layouts.{same_ring}
 use Rattle.onvm_core.specs.Logs.{Log}
 use Rattle.onvm_core.specs.Potential.{popped_in, pushed_in}
 use Rattle.onvm_board.specs.Known.{post_count_in}

@@ -1,9 +1,8 @@
 -- A marks pass, and then drained rings.
-use Rattle.std.proofs.Common.{◌≡◌, ℕ, ◌<◌, ◌≤◌, List, [], ◌∷◌, ◌++◌, length, sym, ap, ◌∙◌, subst, refl, arith, append_assoc, length-append}
+use Rattle.std.proofs.Common.{◌≡◌, ℕ, ◌<◌, ◌≤◌, List, ◌++◌, length, sym, ap, ◌∙◌, subst, refl, arith, append_assoc, length-append}
 use Rattle.onvm_base.specs.declared.ids.FnId.{FnId}
 use Rattle.onvm_base.specs.declared.ids.RingId.TheVariants.{Output}
 use Rattle.onvm_base.specs.declared.plan.Plan.{Plan}
-use Rattle.onvm_base.specs.declared.post.Post.{Post}
 use Rattle.onvm_core.specs.declared.entry.Entry.{Entry}
 use Rattle.onvm_core.specs.Blocks.{kind_of}
 use Rattle.onvm_core.specs.Blocks.RoleKind.{Sends}
@@ -26,7 +25,6 @@ use Rattle.onvm_promises.proofs.SendPromise.{keeps_more, send_promise}
 use Rattle.onvm_promises.proofs.Settling.{aged_moves}
 use Rattle.onvm_promises.proofs.Unmarked.{AreUnmarked, moves_unmarked}
 use Rattle.entry_throttle.specs.Feeders.{FeederView, IsReady, MadeMarksPass}
-use Rattle.entry_throttle.specs.Lanes.{HasMarks}
 use Rattle.entry_throttle.specs.Moments.{KeepsMoments}
 use Rattle.entry_throttle.specs.Throttles.{AreMarksOf}
 use Rattle.entry_throttle.proofs.MarksPasses.{moments_after_pass, pass_by_moments}

@@ -1,50 +1,30 @@
 -- A marks pass and the drained rings are what a pass promises.
-use Rattle.std.proofs.Common.{◌≡◌, ℕ, ◌+◌, ◌-◌, ◌<◌, ◌≤◌, Bool, true, false, [], ◌∷◌, ◌++◌, length, sym, ap, ◌∙◌, subst, refl, arith, append_assoc, length-append}
-use Rattle.std.specs.Prelude.{◌≢◌}
+use Rattle.std.proofs.Common.{◌≡◌, ℕ, ◌-◌, ◌<◌, true, false, [], ◌∷◌, length, sym, ◌∙◌, subst, refl, arith}
 use Rattle.onvm_base.specs.declared.ids.FnId.{FnId}
-use Rattle.onvm_base.specs.declared.ids.RingId.TheVariants.{Output}
-use Rattle.onvm_base.specs.declared.plan.Plan.{Plan}
-use Rattle.onvm_base.specs.declared.post.Post.{Post}
-use Rattle.onvm_core.specs.declared.entry.Entry.{Entry}
 use Rattle.onvm_core.specs.declared.layout.Layout.{Layout}
 use Rattle.onvm_core.specs.declared.layout.Word.TheVariants.{Post as PostWord}
 use Rattle.onvm_core.specs.declared.step.Act.{Act}
 use Rattle.onvm_core.specs.Blocks.{kind_of}
 use Rattle.onvm_core.specs.Blocks.RoleKind.{Sends}
-use Rattle.onvm_core.specs.Layouts.{IsLayoutOf}
 use Rattle.onvm_core.specs.Logs.{Log, Setting}
-use Rattle.onvm_core.specs.Marks.{Ages}
-use Rattle.onvm_core.specs.Places.{how_many}
 use Rattle.onvm_core.proofs.Agreeing.{Agree}
 use Rattle.onvm_core.proofs.RoleKinds.{kind_sends}
 use Rattle.onvm_board.specs.Known.{post_count_in}
-use Rattle.onvm_board.specs.Tokens.{BoardView, TokenView}
-use Rattle.onvm_promises.specs.declared.pass.Pass.{Pass}
-use Rattle.onvm_promises.specs.declared.pass.Pass.TheVariants.{Did, Idle, Wanting}
+use Rattle.onvm_promises.specs.declared.pass.Pass.TheVariants.{Wanting}
 use Rattle.onvm_promises.specs.Acts.{AreMoveSteps, IsMoveStep}
 use Rattle.onvm_promises.specs.Acts.IsMoveStep.{APop, AnEmpty, APush, AFull, AGive}
-use Rattle.onvm_promises.specs.Answers.{IsIdleSender, Tells, is_moved}
-use Rattle.onvm_promises.specs.Kept.{FeederKeeps, Outcomes, kept_at, kept_now, moment_then, posts_by, records_by, sent_by}
-use Rattle.onvm_promises.specs.Passes.{IsMarksPass}
-use Rattle.onvm_promises.specs.Roles.{IsSendPromise, IsSenderSoFar, setting_of}
+use Rattle.onvm_promises.specs.Kept.{FeederKeeps, moment_then, posts_by, records_by, sent_by}
+use Rattle.onvm_promises.specs.Roles.{IsSendPromise, IsSenderSoFar}
 use Rattle.onvm_promises.specs.Times.{aged_by, passes_in}
 use Rattle.onvm_promises.proofs.Aging.{aged_stays, feeder_same}
-use Rattle.onvm_promises.proofs.Keeping.{earlier_moment, kept_same, later_moment}
-use Rattle.onvm_promises.proofs.SendPromise.{keeps_more, send_promise}
-use Rattle.onvm_promises.proofs.Settling.{aged_moves}
-use Rattle.onvm_promises.proofs.Unmarked.{moves_unmarked}
-use Rattle.entry_throttle.specs.Feeders.{FeederView, IsReady, MadeMarksPass}
-use Rattle.entry_throttle.specs.Lanes.{HasMarks}
+use Rattle.onvm_promises.proofs.Keeping.{earlier_moment, kept_same}
+use Rattle.entry_throttle.specs.Feeders.{FeederView}
 use Rattle.entry_throttle.specs.Moments.{KeepsMoments}
 use Rattle.entry_throttle.specs.Throttles.{AreMarksOf}
-use Rattle.entry_throttle.proofs.MarksPasses.{marks_same, moments_after_pass, pass_by_moments}
-use Rattle.entry_throttle.proofs.OtherActs.{marks_grown, moments_extended}
-use Rattle.tx_pass.specs.declared.outlet.Outlet.{Outlet}
+use Rattle.entry_throttle.proofs.MarksPasses.{marks_same}
+use Rattle.entry_throttle.proofs.OtherActs.{moments_extended}
 use Rattle.tx_pass.specs.declared.role.TxRole.{TxRole}
-use Rattle.tx_pass.specs.Keeping.{outcomes_of}
-use Rattle.tx_pass.specs.Passing.{AreDrained}
-use Rattle.tx_pass.specs.Roles.{IsFeederBy, IsInOrder, IsTransmit, IsTxRole, keeps_of}
-use Rattle.tx_pass.proofs.Draining.{dry_where_idle}
+use Rattle.tx_pass.specs.Roles.{IsInOrder, IsTransmit, keeps_of}
 
 pub is_sending : (layout : Layout) (role : ℕ) → IsTransmit layout role → kind_of layout role ≡ Sends
 is_sending layout role is =

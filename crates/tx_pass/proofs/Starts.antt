@@ -1,23 +1,18 @@
 -- A new role.
-use Rattle.std.proofs.Common.{◌≡◌, ℕ, ◌<◌, ◌≤◌, List, [], length, sym, ap, ◌∙◌, subst, refl, arith}
+use Rattle.std.proofs.Common.{◌≡◌, ℕ, [], length, sym, ◌∙◌, subst, refl, arith}
 use Rattle.onvm_base.specs.declared.plan.Plan.{Plan}
 use Rattle.onvm_core.specs.declared.layout.Layout.{Layout}
 use Rattle.onvm_core.specs.Layouts.{IsFeeder, IsLayout, IsLayoutOf}
-use Rattle.onvm_core.specs.Logs.{Setting}
-use Rattle.onvm_core.specs.Marks.{Ages}
-use Rattle.onvm_board.specs.Tokens.{BoardView, TokenView}
-use Rattle.desc_ring.specs.declared.tail.Tail.{Tail}
+use Rattle.onvm_board.specs.Tokens.{BoardView}
 use Rattle.desc_ring.specs.Arrays.{AreNew, lane_from, new_head, new_tail, output_of}
 use Rattle.desc_ring.proofs.Beginning.{heads_begin, lanes_begin}
-use Rattle.onvm_promises.specs.Kept.{Outcomes, kept_at, records_by, sent_by}
-use Rattle.onvm_promises.specs.Roles.{IsSenderSoFar, setting_of}
+use Rattle.onvm_promises.specs.Roles.{setting_of}
 use Rattle.onvm_promises.specs.Times.{aged_by}
-use Rattle.entry_throttle.specs.Feeders.{FeederView, IsFeederOf, IsNewFeeder}
+use Rattle.entry_throttle.specs.Feeders.{FeederView, IsNewFeeder}
 use Rattle.entry_throttle.specs.Throttles.{AreMarksOf}
 use Rattle.entry_throttle.proofs.Starts.{feeder_at_start, marks_at_start, moments_at_start, settled_at_start}
 use Rattle.tx_pass.specs.declared.role.TxRole.{TxRole}
-use Rattle.tx_pass.specs.Keeping.{outcomes_of}
-use Rattle.tx_pass.specs.Roles.{IsInOrder, IsNewRole, IsTransmit, keeps_of}
+use Rattle.tx_pass.specs.Roles.{IsNewRole, IsTransmit}
 
 -- a plan asks for one layout
 pub one_layout : (plan : Plan) (a b : Layout) → IsLayoutOf plan a → IsLayoutOf plan b → a ≡ b

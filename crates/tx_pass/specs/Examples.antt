@@ -1,6 +1,5 @@
 -- The roles of the tests, which bring frames to a transmit role and take them on.
 use Rattle.std.specs.Prelude.{ℕ, ◌≡◌, ◌+◌, ◌<◌, ◌≤◌, false, []}
-use Rattle.onvm_base.specs.declared.ids.RingId.{RingId}
 use Rattle.onvm_base.specs.declared.plan.Plan.{Plan}
 use Rattle.onvm_core.specs.declared.layout.Layout.{Layout}
 use Rattle.onvm_core.specs.Layouts.{IsLayout, core_role}
@@ -13,8 +12,6 @@ use Rattle.desc_ring.specs.Ends.{IsHeadOf, IsTailOf}
 use Rattle.mbuf_pool.specs.declared.part.Part.{Part}
 use Rattle.mbuf_pool.specs.Parts.{IsPartOf}
 use Rattle.nf_registry.specs.Examples.{three_functions}
-use Rattle.tx_pass.specs.declared.role.TxRole.{TxRole}
-use Rattle.tx_pass.specs.Roles.{IsTxRole}
 
 -- one port, two transmit roles and two cores, and three functions
 pub record IsTestPlan (plan : Plan) : Type 0 where

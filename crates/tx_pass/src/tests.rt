@@ -113,6 +113,8 @@ fn record(number: u32, outcome: Outcome) -> Record {
     }
 }
 
+fn may_be_handed_over<T: Send>(_role: &T) {}
+
 #[test]
 fn a_frame_goes_on_to_its_next_function_and_leaves_by_its_port(
     rt: HostRuntime,
@@ -146,6 +148,7 @@ fn a_frame_goes_on_to_its_next_function_and_leaves_by_its_port(
         assert_eq!(rt; last.pass(&board, &plan, &registry, 3000), Pass::Idle);
     }
     assert_eq!(rt; (sender.role.recorded(), last.role.recorded()), (0, 1));
+    may_be_handed_over(&last.role);
     let kept = last.role.end();
     assert_eq!(rt;
         kept.records.as_slice(),

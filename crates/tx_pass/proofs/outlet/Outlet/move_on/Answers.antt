@@ -6,13 +6,11 @@ use Rattle.onvm_core.specs.declared.parcel.Parcel.{Parcel}
 use Rattle.onvm_core.specs.declared.step.Act.TheVariants.{Give}
 use Rattle.onvm_core.specs.Logs.{with_cursor}
 use Rattle.onvm_board.specs.Tokens.{TokenView, grown, parcel_in}
-use Rattle.onvm_promises.specs.Acts.IsMoveStep.{AGive}
 use Rattle.onvm_promises.specs.Kept.{Told}
 use Rattle.tx_pass.specs.Keeping.{outcomes_of}
 use Rattle.tx_pass.specs.Moving.{IsMoveOf, holding, went_on}
 use Rattle.tx_pass.specs.Noting.{HasNoted}
 use Rattle.tx_pass.proofs.Goes.{goes_on}
-use Rattle.tx_pass.proofs.Noted.{noted_none}
 use Rattle.tx_pass.proofs.Outlets.{outlet_by, outlet_grown}
 use Rattle.tx_pass.proofs.Stretches.{give_moved, went_goes, went_steps}
 use Rattle.tx_pass.proofs.outlet.Outlet.move_on.Goals as goal

@@ -1,11 +1,11 @@
-use Rattle.std.proofs.Common.{◌≡◌, ◌∙◌, [], ◌∷◌, ap, subst, arith, refl}
+use Rattle.std.proofs.Common.{◌∙◌, [], ◌∷◌, ap, subst, arith, refl}
 use Rattle.onvm_base.specs.declared.ids.RingId.{RingId}
 use Rattle.onvm_core.specs.declared.step.Act.{Act}
 use Rattle.onvm_core.specs.declared.step.Act.TheVariants.{Pop, Empty}
 use Rattle.onvm_core.specs.declared.step.Item.TheVariants.{Buffer}
 use Rattle.onvm_core.specs.Layouts.{IsRing, consumer}
 use Rattle.onvm_board.specs.Rule.{FitsRing, hand_after}
-use Rattle.onvm_board.specs.Tokens.{TokenView, MakesStep, parcel_in}
+use Rattle.onvm_board.specs.Tokens.{MakesStep, parcel_in}
 use Rattle.tx_pass.specs.Keeping.{HasRoom}
 use Rattle.tx_pass.proofs.Outlets.{head_moved_on, outlet_grown}
 use Rattle.tx_pass.proofs.Stretches.{one_moved, one_empty}

@@ -1,8 +1,6 @@
-use Rattle.std.proofs.Common.{◌≡◌, ◌≤◌, [], sym, ap, ◌∙◌, subst, refl}
-use Rattle.onvm_base.specs.declared.ids.RingId.{RingId}
+use Rattle.std.proofs.Common.{◌≤◌, [], sym, ◌∙◌, subst, refl}
 use Rattle.onvm_base.specs.declared.ids.RingId.TheVariants.{Lane}
-use Rattle.onvm_board.specs.Tokens.{TokenView, grown, parcel_in}
-use Rattle.desc_ring.specs.Arrays.{IsTailAt, lane_from}
+use Rattle.onvm_board.specs.Tokens.{parcel_in}
 use Rattle.desc_ring.proofs.InArrays.{lanes_moved}
 use Rattle.entry_throttle.specs.Feeders.{FeederView}
 use Rattle.tx_pass.specs.Moving.{went_on}

@@ -1,4 +1,4 @@
-use Rattle.std.proofs.Common.{◌≡◌, ℕ, [], ◌∙◌, ap, sym, refl}
+use Rattle.std.proofs.Common.{◌≡◌, ℕ, [], ◌∙◌, sym}
 use Rattle.desc_ring.specs.Arrays.{output_of}
 use Rattle.desc_ring.proofs.InArrays.{heads_moved}
 use Rattle.tx_pass.proofs.Outlets.{popped_none}

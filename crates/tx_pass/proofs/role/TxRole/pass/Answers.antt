@@ -1,4 +1,4 @@
-use Rattle.std.proofs.Common.{◌≡◌, ℕ, ◌<◌, sym, ap, ◌∙◌, refl, arith}
+use Rattle.std.proofs.Common.{◌<◌, ap, refl, arith}
 use Rattle.onvm_promises.specs.Kept.{FeederKeeps}
 use Rattle.onvm_promises.specs.Roles.{setting_of}
 use Rattle.tx_pass.proofs.Passed.{did_promise, idle_promise, in_order}

@@ -1,5 +1,4 @@
-use Rattle.std.proofs.Common.{◌≡◌, sym, subst, refl}
-use Rattle.onvm_core.specs.declared.layout.Layout.{Layout}
+use Rattle.std.proofs.Common.{◌≡◌, subst, refl}
 use Rattle.onvm_core.specs.Layouts.{IsLayout}
 use Rattle.tx_pass.proofs.Starts.{new_role, one_layout}
 use Rattle.tx_pass.proofs.room.TxRoom.make.Goals as goal
