@@ -5,6 +5,8 @@ program := crates/onvm_main/out/onvm_main
 functions := crates/nf_bench/out/nf_bench
 windows := crates/window_bench/out/window_bench
 board := crates/board_bench/out/board_bench
+flows := crates/flow_bench/out/flow_bench
+passes := crates/pass_bench/out/pass_bench
 sources := crates.txt $(shell find crates -name out -prune -o -type f '(' -name '*.rt' -o -name '*.antt' ')' -print)
 
 .PHONY: help test run bench build
@@ -14,7 +16,7 @@ help:
 	@echo 'make run     replays the first example, and prints what was emitted'
 	@echo "make test    the merge gate: every proof, test and must-fail edit, then the repository's own checks"
 	@echo 'make bench   the program beside other ones that copy captures, what functions cost per frame,'
-	@echo '             and what windows of samples and the board cost; never part of a test'
+	@echo '             and what windows of samples, the board, rules and passes cost; never part of a test'
 
 # The last line adds up what passed and what failed, also where a step failed and ended the rest.
 test:
@@ -26,11 +28,13 @@ test:
 run: $(program)
 	@sh checks/show.sh examples/01-one-frame
 
-bench: $(program) $(functions) $(windows) $(board)
+bench: $(program) $(functions) $(windows) $(board) $(flows) $(passes)
 	@python3 bench/replay.py
 	@$(functions) 1000
 	@$(windows) 1000
 	@$(board) 400
+	@$(flows) 1000
+	@$(passes) 1000
 
 build: $(program)
 
@@ -45,3 +49,9 @@ $(windows): $(sources)
 
 $(board): $(sources)
 	@sh build.sh board_bench
+
+$(flows): $(sources)
+	@sh build.sh flow_bench
+
+$(passes): $(sources)
+	@sh build.sh pass_bench

@@ -23,7 +23,8 @@ use Rattle.chain_file.proofs.KeptChains.{chains_differ, chains_right, place_with
 use Rattle.chain_file.proofs.KeptFunctions.{functions_differ, functions_right}
 use Rattle.chain_file.proofs.KeptLists.{all_judged, list_at_right, mapped_length, no_cause, no_some}
 use Rattle.chain_file.proofs.KeptTests.{tests_right}
-use Rattle.chain_file.proofs.Sizing.{are_sizes, plan_sizes}
+use Rattle.chain_file.specs.File.{plan_sizes}
+use Rattle.chain_file.proofs.Sizing.{are_sizes}
 use Rattle.chain_file.proofs.Untold.{top_few}
 
 -- ---- rules

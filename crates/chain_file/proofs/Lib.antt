@@ -19,7 +19,8 @@ pub mod Spelled
 pub mod Stages
 pub mod Told
 pub mod Untold
-pub mod WrittenExample
+pub mod WrittenBrackets
+mod WrittenExample
 pub mod WrittenKinds
 pub mod WrittenPlan
 pub mod WrittenSize

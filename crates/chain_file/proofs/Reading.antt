@@ -1,5 +1,6 @@
 -- What a file is read as, it is alone.
-use Rattle.std.proofs.Common.{◌≡◌, ℕ, List, sym, ◌∙◌, subst, arith}
+use Rattle.std.proofs.Common.{◌≡◌, ℕ, List, sym, ◌∙◌, subst}
+use Rattle.std.proofs.lemmas.Bool.{true≢false}
 use Rattle.onvm_base.specs.declared.plan.Plan.{Plan}
 use Rattle.chain_file.specs.declared.fault.FileFault.{FileFault}
 use Rattle.chain_file.specs.declared.fault.FileFault.TheVariants.{Memory}
@@ -10,7 +11,7 @@ use Rattle.chain_file.proofs.Told.{only_memory}
 pub not_refused : (bytes : List ℕ) (captures : ℕ) (guests : List (List ℕ)) (plan : Plan) (fault : FileFault)
     → IsRead bytes captures guests plan → IsRefused bytes captures guests fault → fault ≡ Memory
 not_refused bytes captures guests plan fault r (by_memory is) = is
-not_refused bytes captures guests plan fault r (by_size is large) = absurd (omega (arith, r.size))
+not_refused bytes captures guests plan fault r (by_size is large) = absurd (true≢false (sym r.within ∙ large))
 not_refused bytes captures guests plan fault r (by_text is small none) = absurd (no_some r.tree (sym r.is.1 ∙ none r.is.0))
 not_refused bytes captures guests plan fault r (by_tree tree small is faulty) =
     let same : tree ≡ r.tree = same_some tree r.tree (sym is.1 ∙ r.is.1) in

@@ -2,32 +2,15 @@
 use Rattle.std.proofs.Common.{◌≡◌, ℕ, ◌/◌, ◌&&◌, nat_le, nat_lt, max, [], ◌∷◌, Option, None, codes, arith}
 use Rattle.serde_json.specs.Data.{Data}
 use Rattle.onvm_base.specs.declared.limits.TheConstants.{MAX_AGE, MAX_BUFFERS, MAX_BURST, MAX_CORES, MAX_PORTS, MAX_RING, MAX_TICK, MAX_TRANSMIT_ROLES, MAX_WINDOW, MIN_RING, MIN_TICK}
-use Rattle.onvm_base.specs.Plan.{IsFrom, Sizes as PlanSizes, AreSizes}
+use Rattle.onvm_base.specs.Plan.{IsFrom, AreSizes}
 use Rattle.chain_file.specs.declared.fault.Cause.{Cause}
 use Rattle.chain_file.specs.declared.fault.Cause.TheVariants.{Marks}
-use Rattle.chain_file.specs.declared.top.Sizes.{Sizes}
 use Rattle.chain_file.specs.Causes.{unless, first_of}
 use Rattle.chain_file.specs.Values.{number_or, only}
+use Rattle.chain_file.specs.File.{plan_sizes}
 use Rattle.chain_file.specs.Top.{top_in, top_keys, roles_in, rings_in, times_in, lists_cause, ring_in, high_in, low_in}
 use Rattle.chain_file.proofs.Ranges.{number-IsFrom, number_or-IsFrom, marks_hold}
 use Rattle.chain_file.proofs.Untold.{first_of_none}
-
-abbrev pub plan_sizes : Sizes → PlanSizes
-plan_sizes s = record {
-  version = s.version;
-  ports = s.ports;
-  transmit = s.transmit;
-  cores = s.cores;
-  buffers = s.buffers;
-  ring = s.ring;
-  output = s.output;
-  burst = s.burst;
-  high = s.high;
-  low = s.low;
-  age = s.age;
-  window = s.window;
-  tick = s.tick;
-}
 
 third_of_five : (a b c d e : Option Cause) → first_of (a ∷ b ∷ c ∷ d ∷ e ∷ []) ≡ None → c ≡ None
 third_of_five a b c d e h = (first_of_none c (d ∷ e ∷ []) (first_of_none b (c ∷ d ∷ e ∷ []) (first_of_none a (b ∷ c ∷ d ∷ e ∷ []) h).1).1).0

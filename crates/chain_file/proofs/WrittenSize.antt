@@ -48,7 +48,7 @@ record IsInside (c : ℕ) : Type 0 where
 letter_inside : (c : ℕ) → is_letter c ≡ true → IsInside c
 letter_inside c e = record { no_quote = λ is. grind arith; no_backslash = λ is. grind arith; no_control = grind arith }
 
-same_escaped : (s : List ℕ) → IsText s → escape s ≡ s
+pub same_escaped : (s : List ℕ) → IsText s → escape s ≡ s
 same_escaped [] e = refl
 same_escaped (c ∷ cs) e =
     let two = both_true (is_letter c) (list_all is_letter cs) e in

@@ -1,11 +1,12 @@
 -- The plan of a file, and its first fault.
-use Rattle.std.specs.Prelude.{ℕ, ◌≡◌, ◌≢◌, ◌<◌, ◌≤◌, ◌⊎◌, Option, Some, None, option_and_then, List, map, take, slice_get, codes, IsUtf8, length}
+use Rattle.std.specs.Prelude.{ℕ, ◌≡◌, ◌≢◌, ◌<◌, ◌⊎◌, Bool, true, false, ◌&&◌, ◌||◌, nat_eq, nat_le, count_by, Option, Some, None, option_and_then, List, map, take, slice_get, codes, IsUtf8, length}
 use Rattle.serde_json.specs.Data.{Data}
 use Rattle.serde_json.specs.Read.{read}
 use Rattle.onvm_base.specs.declared.limits.TheConstants.{MAX_CHAIN_FILE_BYTES}
 use Rattle.onvm_base.specs.declared.chain.ChainPlan.{ChainPlan}
 use Rattle.onvm_base.specs.declared.function.FunctionPlan.{FunctionPlan}
 use Rattle.onvm_base.specs.declared.rules.RulePlan.{RulePlan}
+use Rattle.chain_file.specs.declared.file.TheConstants.{MAX_CHAIN_FILE_BRACKETS}
 use Rattle.chain_file.specs.declared.fault.Cause.{Cause}
 use Rattle.chain_file.specs.declared.fault.Place.{Place}
 use Rattle.chain_file.specs.declared.fault.Part.TheVariants as part
@@ -13,6 +14,7 @@ use Rattle.chain_file.specs.declared.fault.FileFault.{FileFault}
 use Rattle.chain_file.specs.declared.fault.FileFault.TheVariants.{Memory, Json, Limit}
 use Rattle.chain_file.specs.declared.judged.Judged.{Judged}
 use Rattle.chain_file.specs.declared.top.Sizes.{Sizes}
+use Rattle.onvm_base.specs.Plan.{Sizes as PlanSizes}
 use Rattle.onvm_base.specs.declared.plan.Plan.{Plan}
 use Rattle.onvm_base.specs.declared.ids.ChainId.{ChainId}
 use Rattle.chain_file.specs.Causes.{fault_at}
@@ -162,6 +164,24 @@ numbers_of plan = record {
   tick = plan.tick;
 }
 
+-- the same, as the rules of a plan name them
+abbrev pub plan_sizes : Sizes → PlanSizes
+plan_sizes s = record {
+  version = s.version;
+  ports = s.ports;
+  transmit = s.transmit;
+  cores = s.cores;
+  buffers = s.buffers;
+  ring = s.ring;
+  output = s.output;
+  burst = s.burst;
+  high = s.high;
+  low = s.low;
+  age = s.age;
+  window = s.window;
+  tick = s.tick;
+}
+
 -- the tree is this plan: no place has a cause, and each part is what stands there
 pub record IsPlanOf (captures : ℕ) (guests : List (List ℕ)) (d : Data) (plan : Plan) : Type 0 where
   pub top : TopIsRight captures d
@@ -201,20 +221,33 @@ pub data IsFaultOf (captures : ℕ) (guests : List (List ℕ)) (d : Data) (fault
       → RulesAreRight captures guests d
       → Tells default_place (default_of captures guests d).cause fault → IsFaultOf captures guests d fault
 
+-- ---- the text of a file
+
+-- a bracket that opens a list or an object, or stands in a text
+abbrev pub is_opening : ℕ → Bool
+is_opening byte = nat_eq byte 91 || nat_eq byte 123
+
+abbrev pub openings : List ℕ → ℕ
+openings bytes = count_by is_opening bytes
+
+-- the file has few enough bytes and brackets
+abbrev pub is_within : List ℕ → Bool
+is_within bytes = nat_le (length bytes) MAX_CHAIN_FILE_BYTES && nat_le (openings bytes) MAX_CHAIN_FILE_BRACKETS
+
 -- the bytes are this tree
 abbrev pub IsTree : List ℕ → Data → Type 0
 IsTree bytes tree = IsUtf8 bytes × (read bytes ≡ Some tree)
 
 -- the file is this plan
 pub record IsRead (bytes : List ℕ) (captures : ℕ) (guests : List (List ℕ)) (plan : Plan) : Type 0 where
-  pub size : length bytes ≤ MAX_CHAIN_FILE_BYTES
+  pub within : is_within bytes ≡ true
   pub tree : Data
   pub is : IsTree bytes tree
   pub plan_is : IsPlanOf captures guests tree plan
 
--- why a file is refused: it is too large; or it is no JSON; or by the first fault of its tree; or for want of memory
+-- why a file is refused: it is too large or has too many brackets; or it is no JSON; or by the first fault of its tree; or for want of memory
 pub data IsRefused (bytes : List ℕ) (captures : ℕ) (guests : List (List ℕ)) (fault : FileFault) : Type 0 where
   by_memory : fault ≡ Memory → IsRefused bytes captures guests fault
-  by_size : fault ≡ Limit file_place → MAX_CHAIN_FILE_BYTES < length bytes → IsRefused bytes captures guests fault
-  by_text : fault ≡ Json → length bytes ≤ MAX_CHAIN_FILE_BYTES → (IsUtf8 bytes → read bytes ≡ None) → IsRefused bytes captures guests fault
-  by_tree : (tree : Data) → length bytes ≤ MAX_CHAIN_FILE_BYTES → IsTree bytes tree → IsFaultOf captures guests tree fault → IsRefused bytes captures guests fault
+  by_size : fault ≡ Limit file_place → is_within bytes ≡ false → IsRefused bytes captures guests fault
+  by_text : fault ≡ Json → is_within bytes ≡ true → (IsUtf8 bytes → read bytes ≡ None) → IsRefused bytes captures guests fault
+  by_tree : (tree : Data) → is_within bytes ≡ true → IsTree bytes tree → IsFaultOf captures guests tree fault → IsRefused bytes captures guests fault

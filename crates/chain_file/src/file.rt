@@ -1,28 +1,33 @@
 //! A whole file.
-ghost use Rattle.std.specs.Prelude.{IfOk, IfErr};
+ghost use Rattle.std.specs.Prelude.{◌≡◌, IfOk, IfErr};
+ghost use Rattle.onvm_base.specs.Plan.{IsPlan};
 ghost use Rattle.serde_json.specs.View.{view};
-ghost use Rattle.chain_file.specs.File.{IsFaultOf, IsPlanOf, IsRead, IsRefused};
+ghost use Rattle.chain_file.specs.File.{IsFaultOf, IsPlanOf, IsRead, IsRefused, is_opening, is_within, numbers_of, openings, plan_sizes};
 ghost use Rattle.chain_file.specs.Guests.{names_of};
 
 use crate::chains::chains;
 use crate::fault::{FileFault, Part, Place};
 use crate::functions::functions;
 use crate::rules::{default, rules};
-use crate::top::top;
+use crate::top::{Sizes, top};
 use nf_api::Guest;
-use onvm_base::{MAX_CHAIN_FILE_BYTES, Plan};
+use onvm_base::{ChainId, ChainList, FunctionList, MAX_CHAIN_FILE_BYTES, Plan, Rules};
 use serde_json::Value;
 use std::alloc::Global;
 
+/// The most brackets that open a list or an object in a chain file, those in texts among them. A plan
+/// needs at most 10,436; a tree of as many objects as this takes some 28 MiB.
+pub const MAX_CHAIN_FILE_BRACKETS: usize = 32_768;
+
 /// The plan of a chain file, for so many captures and with these guests.
 ///
-/// A file is judged in this order: its size, its JSON, the top object, each function, each chain with
-/// its steps, each rule, and the default. The first fault is told.
+/// A file is judged in this order: its size and its brackets, its JSON, the top object, each function,
+/// each chain with its steps, each rule, and the default. The first fault is told.
 pub fn read(alloc: Global, bytes: &[u8], captures: u8, guests: &[Guest]) -> Result<Plan, FileFault>
     ensures plan { IfOk result (IsRead bytes.now captures (names_of guests.now)) }
     ensures fault { IfErr result (IsRefused bytes.now captures (names_of guests.now)) }
 {
-    if bytes.len() > MAX_CHAIN_FILE_BYTES {
+    if !is_within(bytes) {
         return Err(FileFault::Limit {
             place: Place::of(Part::File),
         });
@@ -33,6 +38,25 @@ pub fn read(alloc: Global, bytes: &[u8], captures: u8, guests: &[Guest]) -> Resu
         Err(_) => return Err(FileFault::Json),
     };
     plan(alloc, &tree, captures, guests)
+}
+
+// Judged before the tree is made, which is many times as large as its text.
+fn is_within(bytes: &[u8]) -> bool
+    ensures { result ≡ is_within bytes.now }
+{
+    bytes.len() <= MAX_CHAIN_FILE_BYTES && openings(bytes) <= MAX_CHAIN_FILE_BRACKETS
+}
+
+fn openings(bytes: &[u8]) -> usize
+    ensures { result ≡ openings bytes.now }
+{
+    bytes.iter().filter(|byte| is_opening(**byte)).count()
+}
+
+fn is_opening(byte: u8) -> bool
+    ensures { result ≡ is_opening byte }
+{
+    byte == b'[' || byte == b'{'
 }
 
 fn plan(alloc: Global, tree: &Value, captures: u8, guests: &[Guest]) -> Result<Plan, FileFault>
@@ -60,7 +84,25 @@ fn plan(alloc: Global, tree: &Value, captures: u8, guests: &[Guest]) -> Result<P
         Ok(default) => default,
         Err(fault) => return Err(fault),
     };
-    Ok(Plan {
+    Ok(plan_of(sizes, functions, chains, rules, default))
+}
+
+// The plan of these numbers and parts.
+fn plan_of(
+    sizes: Sizes,
+    functions: FunctionList,
+    chains: ChainList,
+    rules: Rules,
+    default: ChainId,
+) -> Plan
+    requires { IsPlan (plan_sizes sizes) functions chains rules default }
+    ensures numbers { numbers_of result ≡ sizes }
+    ensures functions { result.functions ≡ functions }
+    ensures chains { result.chains ≡ chains }
+    ensures rules { result.rules ≡ rules }
+    ensures default { result.default ≡ default }
+{
+    Plan {
         version: sizes.version,
         ports: sizes.ports,
         transmit: sizes.transmit,
@@ -78,5 +120,5 @@ fn plan(alloc: Global, tree: &Value, captures: u8, guests: &[Guest]) -> Result<P
         chains,
         rules,
         default,
-    })
+    }
 }

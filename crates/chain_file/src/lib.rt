@@ -22,4 +22,4 @@ mod top;
 mod values;
 
 pub use fault::{Cause, FileFault, Part, Place};
-pub use file::read;
+pub use file::{MAX_CHAIN_FILE_BRACKETS, read};

@@ -1,2 +1,3 @@
 mod Examples
 mod Remembering
+pub mod Crossing

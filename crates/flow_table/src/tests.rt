@@ -184,10 +184,18 @@ fn flows_that_were_pushed_out_keep_their_chains(rt: HostRuntime) -> Result<(), F
     Ok(())
 }
 
+fn may_be_handed_over<T: Send>(_value: &T) {}
+
+// A table goes to the thread of its receive role.
+fn hand_over(table: &FlowTable) {
+    may_be_handed_over(table);
+}
+
 #[test]
 fn without_rules_each_frame_takes_the_default_chain(rt: HostRuntime) -> Result<(), Fail> {
     let plan = plan(rt.alloc(), ListOf::make(rt.alloc()), ChainId(1))?;
     let mut table = FlowTable::make(rt.alloc(), &plan, PortId(0))?;
     assert_eq!(rt; table.chain(&plan, &udp(Some(5), Some((0, 0)))), ChainId(1));
+    hand_over(&table);
     Ok(())
 }

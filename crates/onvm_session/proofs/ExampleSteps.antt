@@ -24,7 +24,7 @@ use Rattle.onvm_session.proofs.ExampleTurns.{all_but_one, all_free, closing_pass
 
 -- what each act asks for that Steps has no line for
 
-finds_empty : {layout : Layout} {before : History} {role : ℕ} {ring : RingId}
+pub finds_empty : {layout : Layout} {before : History} {role : ℕ} {ring : RingId}
     → is_live layout role before ≡ true → IsRing layout ring → role ≡ consumer layout ring
     → content_of ring before ≡ []
     → Allows layout before (by role (Empty ring))

@@ -9,6 +9,15 @@ pub mod IdleRound
 pub mod IdleRun
 pub mod LastRound
 pub mod Leading
+pub mod OverloadAccount
+pub mod OverloadCore
+pub mod OverloadPlan
+pub mod OverloadPromises
+pub mod OverloadReceive
+pub mod OverloadSend
+pub mod OverloadSession
+pub mod OverloadSteps
+pub mod OverloadTick
 pub mod Passing
 pub mod Peeling
 pub mod Phasing

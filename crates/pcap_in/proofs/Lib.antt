@@ -6,6 +6,7 @@ pub mod Grammar
 pub mod HasRead
 pub mod Items
 pub mod Judging
+pub mod Keeping
 pub mod OneAnswer
 pub mod Pulling
 pub mod Read

@@ -55,6 +55,14 @@ IsFaulty reading fault =
     ⊎ IsTornHeader reading fault
     ⊎ AtRecord reading (λ spelling at rest. IsTornRecord spelling at rest reading.finished fault)
 
+-- so many of the bytes fed belong neither to an accepted header nor to a frame that was given
+abbrev pub IsKept : Reading → ℕ → Type 0
+IsKept reading count =
+    ((reading.spelling ≡ None)
+    × (EndsInHeader reading ⊎ ((HEADER_LEN ≤ length reading.rest) × (fault : PcapFault) × BreaksHeader reading.rest fault))
+    × (count ≡ length reading.rest))
+    ⊎ AtRecord reading (λ spelling at rest. count ≡ length rest)
+
 -- what is answered, and what it leaves
 abbrev pub Pulls : Reading → Pull → Reading → Type 0
 Pulls old (pull.Frame frame) new =

@@ -1,12 +1,14 @@
 //! What the definitions of a capture and of a reader's answers imply, for every text and reader.
-ghost use Rattle.std.specs.Prelude.{◌≡◌, ◌↔◌, ◌⊎◌, ℕ, Bool, true, List, [], ◌∷◌, ◌++◌, ◌+◌, None, length, map};
+ghost use Rattle.std.specs.Prelude.{◌≡◌, ◌↔◌, ◌⊎◌, ℕ, Bool, true, List, [], ◌∷◌, ◌++◌, ◌+◌, ◌<◌, None, length, map};
 ghost use Rattle.std.specs.List.{All};
 ghost use Rattle.onvm_base.specs.declared.frame.Frame.{Frame};
 ghost use Rattle.pcap_in.specs.Calls.{Call, Lead, bytes_fed_by, frames_given_by};
 ghost use Rattle.pcap_in.specs.Classic.{IsCapture};
 ghost use Rattle.pcap_in.specs.Emitted.{emit, IsEmittable, with_cut_tail};
 ghost use Rattle.pcap_in.specs.Faulty.{IsCaptureUpTo};
-ghost use Rattle.pcap_in.specs.Reading.{Reading, Pulls, AreLeft, unfed_reading};
+ghost use Rattle.pcap_in.specs.Reading.{Reading, Pulls, AreLeft, IsKept, unfed_reading};
+ghost use Rattle.pcap_in.specs.declared.judge.TheConstants.{HEAD_LEN};
+ghost use Rattle.onvm_base.specs.declared.limits.TheConstants.{MAX_FRAME_BYTES};
 ghost use Rattle.pcap_in.specs.declared.pull.PcapFault.{PcapFault};
 ghost use Rattle.pcap_in.specs.declared.pull.PcapFault.TheVariants.{Torn};
 ghost use Rattle.pcap_in.specs.declared.pull.Pull.{Pull};
@@ -81,6 +83,12 @@ pub fn a_fault_is_told_from_then_on()
     ensures { (old between new next : Reading) (calls : List Call) (fault : PcapFault) (answer : Pull)
         → Pulls old (pull.Bad fault) between → Lead calls between new → Pulls new answer next
         → answer ≡ pull.Bad fault }
+{}
+
+/// Where more is wanted, less than the head and the bytes of the longest frame are kept.
+pub fn little_is_kept_after_more()
+    ensures { (old new : Reading) (count : ℕ) → Pulls old pull.More new → IsKept new count
+        → count < HEAD_LEN + MAX_FRAME_BYTES }
 {}
 
 /// Before a frame is pulled, the frames left are those of the capture that was fed.

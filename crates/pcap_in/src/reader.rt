@@ -42,7 +42,7 @@ impl Model for Reader {
 }
 
 impl Reader {
-    ghost use Rattle.pcap_in.specs.Reading.{Pulls, unfed_reading};
+    ghost use Rattle.pcap_in.specs.Reading.{IsKept, Pulls, unfed_reading};
     ghost use Rattle.pcap_in.specs.Judged.{PullsRecord};
 
     /// A reader that has been fed nothing. It takes no memory.
@@ -105,6 +105,22 @@ impl Reader {
             CaptureHeader::Part => Ok(Pull::More),
             CaptureHeader::Broken(fault) => Ok(Pull::Bad(fault)),
             CaptureHeader::Whole(spelling) => self.next_record(alloc, spelling, HEADER_LEN),
+        }
+    }
+
+    /// How many of the bytes fed belong neither to the header nor to a frame that was given. As long as
+    /// no frame was given, the header is judged anew.
+    pub fn kept(&self) -> usize
+        ensures { IsKept self.now result }
+    {
+        let rest = self.rest_behind(0);
+        if self.spelling.is_some() {
+            return rest.len();
+        }
+        match judge_header(rest) {
+            CaptureHeader::Whole(_) => rest.len() - HEADER_LEN,
+            CaptureHeader::Part => rest.len(),
+            CaptureHeader::Broken(_) => rest.len(),
         }
     }
 

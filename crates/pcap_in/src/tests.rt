@@ -67,6 +67,21 @@ const SPELLINGS: [([u8; 42], u32); 4] = [
 ];
 
 #[test]
+fn of_the_bytes_fed_those_of_the_header_and_of_given_frames_are_not_kept(
+    rt: HostRuntime,
+) -> Result<(), Fail> {
+    let mut reader = Reader::make(rt.alloc());
+    reader.feed(&CAPTURE[..20])?;
+    assert_eq!(rt; reader.kept(), 20);
+    reader.feed(&CAPTURE[20..50])?;
+    assert_eq!(rt; reader.kept(), 26);
+    reader.feed(&CAPTURE[50..])?;
+    assert!(rt; matches!(reader.next(rt.alloc())?, Pull::Frame(_)));
+    assert_eq!(rt; reader.kept(), 0);
+    Ok(())
+}
+
+#[test]
 fn a_frame_is_read_in_each_spelling(rt: HostRuntime) -> Result<(), Fail> {
     for (text, nanos) in SPELLINGS {
         let mut reader = Reader::make(rt.alloc());

@@ -173,44 +173,23 @@ fn bring_five(
     requires enters { Enters board.now entrance.old.token entrance.old.part entrance.old.lane }
     requires handles { Handles board.now core.old.token core.old.lane core.old.output }
 {
-    Ok(
-        bring(
-            alloc,
-            board,
-            entrance,
-            core,
-            Arrival::new(1, 0, 0),
-            Verdict::Out(1),
-        )? && bring(
-            alloc,
-            board,
-            entrance,
-            core,
-            Arrival::new(2, 0, 0),
-            Verdict::ToService(9),
-        )? && bring(
-            alloc,
-            board,
-            entrance,
-            core,
-            Arrival::new(3, 1, 1),
-            Verdict::Next,
-        )? && bring(
-            alloc,
-            board,
-            entrance,
-            core,
-            Arrival::new(4, 0, 31),
-            Verdict::Next,
-        )? && bring(
-            alloc,
-            board,
-            entrance,
-            core,
-            Arrival::new(5, 0, 0),
-            Verdict::Drop,
-        )?,
-    )
+    let out = Verdict::Out(1);
+    if !bring(alloc, board, entrance, core, Arrival::new(1, 0, 0), out)? {
+        return Ok(false);
+    }
+    let away = Verdict::ToService(9);
+    if !bring(alloc, board, entrance, core, Arrival::new(2, 0, 0), away)? {
+        return Ok(false);
+    }
+    let next = Verdict::Next;
+    if !bring(alloc, board, entrance, core, Arrival::new(3, 1, 1), next)? {
+        return Ok(false);
+    }
+    if !bring(alloc, board, entrance, core, Arrival::new(4, 0, 31), next)? {
+        return Ok(false);
+    }
+    let drop = Verdict::Drop;
+    bring(alloc, board, entrance, core, Arrival::new(5, 0, 0), drop)
 }
 
 #[test]

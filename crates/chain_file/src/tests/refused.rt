@@ -45,6 +45,15 @@ fn what_is_no_json_and_what_is_too_large(rt: HostRuntime) -> Result<(), Fail> {
         fault(alloc, spaces.as_bytes()),
         Some(FileFault::Limit { place })
     );
+    for bracket in ["[", "{"] {
+        let most = bracket.repeat(alloc, 32_768)?;
+        assert_eq!(rt; fault(alloc, most.as_bytes()), Some(FileFault::Json));
+        let too_many = bracket.repeat(alloc, 32_769)?;
+        assert_eq!(rt;
+            fault(alloc, too_many.as_bytes()),
+            Some(FileFault::Limit { place })
+        );
+    }
     Ok(())
 }
 

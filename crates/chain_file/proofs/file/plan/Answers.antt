@@ -115,15 +115,15 @@ returns-clause-plan g c =
       chains = chains;
       rules = rules;
       default = ap (λ cs. (chain_at cs (codes "default") d).cause) (sym ks) ∙ c.in-Ok-default.ensures.right;
-      sizes_are = ap (λ t. t.value) e;
-      functions_are = c.in-Ok.ensures.all ∙ same_functions captures guests d c.top-top.result e;
-      chains_are = made;
-      rules_are = c.in-Ok-rules.ensures.all ∙ ap (λ cs. rules_of cs (under (codes "rules") d)) cs;
-      default_is = c.in-Ok-default.ensures.value ∙ ap (λ cs. (chain_at cs (codes "default") d).value) ks;
+      sizes_are = c.plan_of.ensures.numbers ∙ ap (λ t. t.value) e;
+      functions_are = c.plan_of.ensures.functions ∙ c.in-Ok.ensures.all ∙ same_functions captures guests d c.top-top.result e;
+      chains_are = c.plan_of.ensures.chains ∙ made;
+      rules_are = c.plan_of.ensures.rules ∙ c.in-Ok-rules.ensures.all ∙ ap (λ cs. rules_of cs (under (codes "rules") d)) cs;
+      default_is = c.plan_of.ensures.default ∙ c.in-Ok-default.ensures.value ∙ ap (λ cs. (chain_at cs (codes "default") d).value) ks;
     }
 
-pub invariant_of-result : goal.invariant_of-result
-invariant_of-result g c =
+pub plan_of-requires : goal.plan_of-requires
+plan_of-requires g c =
     let d = view c.args.tree.now in
     let captures = c.args.captures in
     let guests = (names_of c.args.guests.now) in
@@ -136,14 +136,12 @@ invariant_of-result g c =
     let cs = c.as_slice-2.ensures ∙ made in
     let rules : RulesAreRight captures guests d = subst (λ ks. (k : ℕ) → rule_cause_at ks (under (codes "rules") d) k ≡ None) cs c.in-Ok-rules.ensures.right in
     let ks = c.as_slice-3.ensures ∙ made in
-    record {
-      kept = kept_by captures guests d c.top-top.result.value c.in-Ok.functions c.in-Ok-chains.chains c.in-Ok-rules.rules
-          c.in-Ok-default.default
-          (ap (λ t. t.value) e)
-          (c.in-Ok.ensures.all ∙ same_functions captures guests d c.top-top.result e)
-          made
-          (c.in-Ok-rules.ensures.all ∙ ap (λ cs. rules_of cs (under (codes "rules") d)) cs)
-          (c.in-Ok-default.ensures.value ∙ ap (λ cs. (chain_at cs (codes "default") d).value) ks)
-          top functions chains rules
-          (ap (λ cs. (chain_at cs (codes "default") d).cause) (sym ks) ∙ c.in-Ok-default.ensures.right);
-    }
+    kept_by captures guests d c.top-top.result.value c.in-Ok.functions c.in-Ok-chains.chains c.in-Ok-rules.rules
+    c.in-Ok-default.default
+    (ap (λ t. t.value) e)
+    (c.in-Ok.ensures.all ∙ same_functions captures guests d c.top-top.result e)
+    made
+    (c.in-Ok-rules.ensures.all ∙ ap (λ cs. rules_of cs (under (codes "rules") d)) cs)
+    (c.in-Ok-default.ensures.value ∙ ap (λ cs. (chain_at cs (codes "default") d).value) ks)
+    top functions chains rules
+    (ap (λ cs. (chain_at cs (codes "default") d).cause) (sym ks) ∙ c.in-Ok-default.ensures.right)

@@ -1,0 +1,13 @@
+pub mod Doing
+pub mod Elsewhere
+pub mod Empties
+pub mod Keeping
+pub mod Mailing
+pub mod Passing
+pub mod Promising
+pub mod Rooming
+pub mod Searching
+pub mod Servings
+pub mod Stationing
+pub mod Turning
+pub mod Working

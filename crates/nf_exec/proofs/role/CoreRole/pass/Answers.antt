@@ -1,0 +1,65 @@
+use Rattle.std.proofs.Common.{◌≡◌, ℕ, ◌+◌, ◌∙◌, not, refl, sym, ap, subst, arith, List, length}
+use Rattle.onvm_base.specs.declared.ids.FnId.{FnId}
+use Rattle.nf_exec.specs.Roles.{IsPassing}
+use Rattle.nf_exec.specs.Stations.{functions_of}
+use Rattle.nf_exec.proofs.Promising.{promise, role_kept, wanting_promise, wanting_role}
+use Rattle.nf_exec.proofs.Working.{as_long}
+use Rattle.nf_exec.proofs.role.CoreRole.pass.Goals as goal
+
+pub returns-in_default-clause-promise : goal.returns-in_default-clause-promise
+returns-in_default-clause-promise g c entries =
+    wanting_promise g.N.NetFunction.acts g.N.NetFunction.state (g.C.Clock.may_span c.args.clock.now) c.args.board.now
+    c.args.plan.now c.args.token.now c.handle_kept.new.token c.args.self.now c.handle_kept.new.self
+    c.in_default.ensures.unchanged c.requires.role c.requires.timed c.handle_kept.ensures.work
+    c.handle_kept.ensures.functions c.handle_kept.ensures.began entries
+
+pub returns-in_default-clause-role : goal.returns-in_default-clause-role
+returns-in_default-clause-role g c =
+    wanting_role g.N.NetFunction.acts g.N.NetFunction.state c.args.board.now c.args.plan.now c.args.token.now
+    c.handle_kept.new.token c.args.self.now c.handle_kept.new.self c.in_default.ensures.unchanged c.requires.role
+    c.handle_kept.ensures.work
+
+pub mail_all-requires-clause-times : goal.mail_all-requires-clause-times
+mail_all-requires-clause-times g c i s less s_is some =
+    let is = c.serve_all.ensures.times i s less s_is some in
+    omega (arith, is.2)
+
+pub returns-clause-promise : goal.returns-clause-promise
+returns-clause-promise g c entries =
+    let site = c.args.board.now in
+    let plan = c.args.plan.now in
+    let kept = c.handle_kept.ensures in
+    let served = c.serve_all.ensures in
+    let n : ℕ = c.in-Ok.first + c.serve_all.result in
+    let long = as_long c.args.self.now.stations.items c.handle_kept.new.self.stations.items kept.functions in
+    promise g.N.NetFunction.acts g.N.NetFunction.state (g.C.Clock.may_span c.args.clock.now) site plan c.args.token.now
+    c.serve_all.new.token c.mail_all.new.token c.args.self.now c.serve_all.new.self c.mail_all.new.self n
+    c.answer_of.result c.requires.role c.requires.timed
+    (subst (λ (z : List FnId × ℕ). IsPassing site plan z.0 z.1 n c.args.token.now c.serve_all.new.token)
+    (λ i. (kept.functions i, long i))
+    (served.passing c.args.token.now c.in-Ok.first
+    (subst (λ (fs : List FnId). IsPassing site plan fs 0 c.in-Ok.first c.args.token.now c.handle_kept.new.token)
+    (sym kept.functions) c.in-Ok.ensures.passing)))
+    served.work served.times (served.functions ∙ kept.functions) c.mail_all.ensures.mailed c.mail_all.ensures.counts
+    c.mail_all.ensures.work c.mail_all.ensures.functions (c.mail_all.ensures.units.1 ∙ served.began ∙ kept.began)
+    (c.answer_of.ensures.whole ∙ ap not c.is_some.ensures) c.answer_of.ensures.tells entries
+
+pub returns-clause-role : goal.returns-clause-role
+returns-clause-role g c =
+    let site = c.args.board.now in
+    let plan = c.args.plan.now in
+    let kept = c.handle_kept.ensures in
+    let served = c.serve_all.ensures in
+    let n : ℕ = c.in-Ok.first + c.serve_all.result in
+    let long = as_long c.args.self.now.stations.items c.handle_kept.new.self.stations.items kept.functions in
+    role_kept g.N.NetFunction.acts g.N.NetFunction.state (g.C.Clock.may_span c.args.clock.now) site plan c.args.token.now
+    c.serve_all.new.token c.mail_all.new.token c.args.self.now c.serve_all.new.self c.mail_all.new.self n
+    c.answer_of.result c.requires.role c.requires.timed
+    (subst (λ (z : List FnId × ℕ). IsPassing site plan z.0 z.1 n c.args.token.now c.serve_all.new.token)
+    (λ i. (kept.functions i, long i))
+    (served.passing c.args.token.now c.in-Ok.first
+    (subst (λ (fs : List FnId). IsPassing site plan fs 0 c.in-Ok.first c.args.token.now c.handle_kept.new.token)
+    (sym kept.functions) c.in-Ok.ensures.passing)))
+    served.work served.times (served.functions ∙ kept.functions) c.mail_all.ensures.mailed c.mail_all.ensures.counts
+    c.mail_all.ensures.work c.mail_all.ensures.functions (c.mail_all.ensures.units.1 ∙ served.began ∙ kept.began)
+    (c.answer_of.ensures.whole ∙ ap not c.is_some.ensures) c.answer_of.ensures.tells

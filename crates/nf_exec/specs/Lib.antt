@@ -1,0 +1,7 @@
+pub mod Desks
+pub mod Handing
+pub mod Roles
+pub mod Rooms
+pub mod Serving
+pub mod Stations
+pub mod Steps

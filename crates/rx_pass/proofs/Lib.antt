@@ -1,0 +1,12 @@
+pub mod Afterwards
+pub mod Entering
+pub mod Inlets
+pub mod Noted
+pub mod Parts
+pub mod Passed
+pub mod Passing
+pub mod Promise
+pub mod Promising
+pub mod Queues
+pub mod Starts
+pub mod Turning

@@ -1,0 +1,6 @@
+pub mod Chains
+pub mod Keeping
+pub mod Noting
+pub mod Roles
+pub mod Rooms
+pub mod Turns
