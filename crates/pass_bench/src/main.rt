@@ -1,5 +1,5 @@
 //! The program `pass_bench`: measures what passes of roles cost for each frame, beside the board's own
-//! steps.
+//! steps, and what passes of the tick role cost.
 #![tactic(auto)]
 
 mod cost;
@@ -8,6 +8,7 @@ mod passes;
 mod plans;
 mod roles;
 mod steps;
+mod ticks;
 
 use onvm_base::NoMemory;
 use onvm_board::Board;
@@ -18,13 +19,14 @@ use plans::plan;
 use std::env;
 use std::process::ExitCode;
 use steps::cost_of_steps;
+use ticks::measure_ticks;
 
 fn main(rt: HostRuntime) -> ExitCode {
     let Some(rounds) = rounds(&rt) else {
         let _ = println!(rt; "usage: pass_bench ROUNDS");
         return ExitCode::from(2);
     };
-    if measure(&rt, rounds).is_err() {
+    if measure_all(&rt, rounds).is_err() {
         let _ = println!(rt; "no memory");
         return ExitCode::FAILURE;
     }
@@ -38,6 +40,14 @@ fn rounds(rt: &HostRuntime) -> Option<u32> {
         [word] => word.parse().ok().filter(|rounds| *rounds > 0),
         _ => None,
     }
+}
+
+fn measure_all(rt: &HostRuntime, rounds: u32) -> Result<(), NoMemory> {
+    measure(rt, rounds)?;
+    for functions in [2, 8, 32] {
+        measure_ticks(rt, functions, rounds)?;
+    }
+    Ok(())
 }
 
 // Prints what a frame costs that transmit passes move and send, and the same by the board's own steps.

@@ -1,4 +1,4 @@
-use Rattle.std.proofs.Common.{◌≡◌, refl}
+use Rattle.std.proofs.Common.{refl}
 use Rattle.pass_bench.proofs.steps.cost_of_steps.Goals as goal
 
 pub loop-preserved : goal.loop-preserved
