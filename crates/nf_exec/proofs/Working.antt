@@ -1,5 +1,5 @@
 -- A role at work: what a service, or a sample, leaves of it.
-use Rattle.std.proofs.Common.{◌≡◌, ℕ, zero, suc, ◌+◌, ◌-◌, ◌<◌, ◌≤◌, true, false, inl, inr, List, [], ◌∷◌, ◌++◌, length, None, Option, refl, sym, ap, ◌∙◌, subst, arith}
+use Rattle.std.proofs.Common.{◌≡◌, ℕ, zero, suc, ◌+◌, ◌-◌, ◌<◌, ◌≤◌, Bool, true, false, not, inl, inr, List, [], ◌∷◌, ◌++◌, length, None, Option, refl, sym, ap, ◌∙◌, subst, arith}
 use Rattle.std.specs.Prelude.{is_some, ◌≢◌, ◌⊎◌, ◌==◌, ◌^◌, min, slice_get, slice_set, slice_index_or}
 use Rattle.std.proofs.lemmas.Bool.{true≢false}
 use Rattle.std.proofs.lemmas.Bool.Decides.{eqb_tells}
@@ -334,6 +334,10 @@ pub kept_some : (stations : List Station) (kept : Option Kept) (hand : Option Ha
     → is_some kept ≡ true → hand ≡ None → ⊥
 kept_some stations kept hand NoneKept some e = absurd (true≢false (sym some))
 kept_some stations kept hand (OneKept one s parcel less at) some e = cc
+
+pub was_not : (b : Bool) → false ≡ not b → b ≡ true
+was_not true same = refl
+was_not false same = absurd (true≢false (sym same))
 
 pub kept_free : (stations : List Station) (kept : Option Kept) (hand : Option Hand) → IsKept stations kept hand
     → is_some kept ≡ false → hand ≡ None

@@ -5,7 +5,7 @@ ghost use Rattle.onvm_core.specs.declared.entry.Entry.{Entry};
 ghost use Rattle.onvm_core.specs.Handling.{core_hand};
 ghost use Rattle.onvm_core.specs.Layouts.{IsLayoutOf};
 ghost use Rattle.onvm_board.specs.Tokens.{TokenView, grown};
-ghost use Rattle.onvm_promises.specs.declared.pass.Pass.TheVariants.{Stopped};
+ghost use Rattle.onvm_promises.specs.declared.pass.Pass.TheVariants.{Stopped, Wanting};
 ghost use Rattle.onvm_promises.specs.Answers.{Tells, is_complete};
 ghost use Rattle.onvm_promises.specs.Roles.{IsCorePromise, setting_of};
 ghost use Rattle.onvm_promises.specs.Sampling.{AreTimed};
@@ -222,6 +222,9 @@ impl<N: NetFunction> CoreRole<N> {
             token.new.log (counted self.new) result }
         ensures role { IsCoreRole N.acts N.state board.now plan.now token.new self.new }
         ensures began { self.new.began ≡ self.old.began }
+
+        // Only a function wants memory: its frame is kept.
+        ensures wanting { result ≡ Wanting → core_hand token.new.log ≢ None }
         ensures never_stopped { result ≢ Stopped }
     {
         let Ok(first) = self.handle_kept(token, board, plan, clock) else {

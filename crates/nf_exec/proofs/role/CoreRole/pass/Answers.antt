@@ -1,8 +1,11 @@
-use Rattle.std.proofs.Common.{ℕ, ◌+◌, ◌∙◌, not, sym, ap, subst, arith, List}
+use Rattle.std.proofs.Common.{ℕ, ◌+◌, ◌∙◌, not, sym, ap, subst, arith, List, is_some}
 use Rattle.onvm_base.specs.declared.ids.FnId.{FnId}
 use Rattle.nf_exec.specs.Roles.{IsPassing}
 use Rattle.nf_exec.proofs.Promising.{promise, role_kept, wanting_promise, wanting_role}
-use Rattle.nf_exec.proofs.Working.{as_long}
+use Rattle.onvm_core.specs.Handling.{core_hand}
+use Rattle.onvm_board.specs.Tokens.{TokenView}
+use Rattle.onvm_promises.specs.Answers.{is_complete}
+use Rattle.nf_exec.proofs.Working.{as_long, kept_some, was_not}
 use Rattle.nf_exec.proofs.role.CoreRole.pass.Goals as goal
 
 pub returns-in_default-clause-promise : goal.returns-in_default-clause-promise
@@ -62,3 +65,14 @@ returns-clause-role g c =
     served.work served.times (served.functions ∙ kept.functions) c.mail_all.ensures.mailed c.mail_all.ensures.counts
     c.mail_all.ensures.work c.mail_all.ensures.functions (c.mail_all.ensures.units.1 ∙ served.began ∙ kept.began)
     (c.answer_of.ensures.whole ∙ ap not c.is_some.ensures) c.answer_of.ensures.tells
+
+pub returns-in_default-clause-wanting : goal.returns-in_default-clause-wanting
+returns-in_default-clause-wanting g c e none_kept =
+    c.in_default.ensures.wanting
+    (sym (ap (λ (token : TokenView). core_hand token.log) c.in_default.ensures.unchanged) ∙ none_kept)
+
+pub returns-clause-wanting : goal.returns-clause-wanting
+returns-clause-wanting g c e =
+    kept_some _ _ _ c.mail_all.ensures.work.kept
+    (was_not (is_some c.mail_all.new.self.kept)
+    (ap is_complete (sym e) ∙ c.answer_of.ensures.whole ∙ ap not c.is_some.ensures))
