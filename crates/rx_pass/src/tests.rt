@@ -9,8 +9,8 @@ ghost use Rattle.rx_pass.specs.Roles.{IsRxRole};
 use crate::{RxKept, RxRole, RxRoom};
 use nf_registry::Registry;
 use onvm_base::{
-    ChainId, ChainList, ChainPlan, ChainStep, FunctionList, FunctionPlan, Kind, ListOf, Name,
-    NoMemory, Outcome, Plan, PortId, Text,
+    ChainId, ChainList, ChainPlan, ChainStep, FnId, FrameId, FunctionList, FunctionPlan, Kind,
+    ListOf, Name, NoMemory, Outcome, Plan, PortId, Post, Record, Text,
 };
 use onvm_board::{Board, Token};
 use onvm_core::Layout;
@@ -67,8 +67,31 @@ fn chains(alloc: Global) -> Result<ChainList, NoMemory>
     Ok(chains)
 }
 
+// How many frames a lane holds, and its marks.
+#[derive(Clone, Copy)]
+struct Lane {
+    ring: u16,
+    high: u16,
+    low: u16,
+}
+
 // With so many buffers, an age of so many nanoseconds, and this chain for all frames.
 fn plan(alloc: Global, buffers: u16, age: u64, chain: u8) -> Result<Plan, NoMemory>
+    requires buffers { (1 ≤ buffers) × (buffers ≤ 1024) }
+    requires age { age ≤ 1000000 }
+    requires chain { chain < 2 }
+{
+    let lane = Lane {
+        ring: 16,
+        high: 12,
+        low: 4,
+    };
+    plan_of(alloc, lane, buffers, age, chain)
+}
+
+fn plan_of(alloc: Global, lane: Lane, buffers: u16, age: u64, chain: u8) -> Result<Plan, NoMemory>
+    requires ring { (2 ≤ lane.ring) × (lane.ring ≤ 1024) }
+    requires marks { (1 ≤ lane.low) × (lane.low < lane.high) × (lane.high ≤ lane.ring) }
     requires buffers { (1 ≤ buffers) × (buffers ≤ 1024) }
     requires age { age ≤ 1000000 }
     requires chain { chain < 2 }
@@ -81,11 +104,11 @@ fn plan(alloc: Global, buffers: u16, age: u64, chain: u8) -> Result<Plan, NoMemo
         transmit: 2,
         cores: 2,
         buffers,
-        ring: 16,
+        ring: lane.ring,
         output: 16,
         burst: 8,
-        high: 12,
-        low: 4,
+        high: lane.high,
+        low: lane.low,
         age,
         window: 100_000_000,
         tick: 10_000_000,
@@ -219,6 +242,47 @@ fn at_the_high_mark_frames_are_held_back(rt: HostRuntime) -> Result<(), Fail> {
     assert_eq!(rt; counts(&kept), [0, 4, 0, 0]);
     assert_eq!(rt; kept.posts.len(), 1);
     Ok(())
+}
+
+#[test]
+fn of_twelve_frames_those_behind_the_first_burst_are_held(rt: HostRuntime) -> Result<(), Fail> {
+    let lane = Lane {
+        ring: 8,
+        high: 4,
+        low: 2,
+    };
+    let plan = plan_of(rt.alloc(), lane, 64, 0, 0)?;
+    let feed = Feed::Made(Generator::make(7, 12));
+    let (answers, _, kept) = receive(rt.alloc(), &plan, feed)?;
+    assert_eq!(rt;
+        answers,
+        [Pass::Did(8), Pass::Did(4), Pass::Idle, Pass::Idle]
+    );
+    let held = [held(9), held(10), held(11), held(12)];
+    assert_eq!(rt; kept.records.as_slice(), held.as_slice());
+    let raised = Post {
+        feeder: 0,
+        number: 1,
+        moment: 1000,
+        bits: 1,
+    };
+    assert_eq!(rt; kept.posts.as_slice(), [raised].as_slice());
+    Ok(())
+}
+
+// Held by post 1 of feeder 0, for function 0.
+fn held(number: u32) -> Record {
+    Record {
+        frame: FrameId {
+            port: PortId(0),
+            number,
+        },
+        outcome: Outcome::Throttled {
+            feeder: 0,
+            post: 1,
+            function: FnId(0),
+        },
+    }
 }
 
 #[test]
