@@ -2,8 +2,13 @@ pub mod Accounts
 pub mod Boards
 pub mod Endings
 pub mod Gathering
+pub mod Leaving
 pub mod Lists
+pub mod Managers
 pub mod Moments
+pub mod RoleStates
+pub mod Rooms
+pub mod Runs
 pub mod SerialTicks
 pub mod Sessions
 pub mod Starts

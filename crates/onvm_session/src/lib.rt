@@ -8,11 +8,18 @@
 //! holds of what it hands back.
 #![tactic(auto)]
 
+mod ending;
 pub mod laws;
+mod leaving;
 mod lists;
+mod manager;
+mod role;
+mod rooms;
+mod run;
 mod surroundings;
 #[cfg(test)]
 mod tests;
 
 pub use lists::{Gathered, RunLists};
+pub use run::{Counters, Ended, Feeds, Run, Stop, session};
 pub use surroundings::Surroundings;

@@ -1,0 +1,148 @@
+//! How a session ends.
+ghost use Rattle.std.specs.Prelude.{◌≡◌, ◌+◌, ◌-◌, ◌<◌, ◌≤◌, ◌++◌, ℕ, Err, IfErr, IfOk, IsSome, List, OnErr, OnOk, Some, length, slice_get, vec_capacity, vec_len};
+ghost use Rattle.onvm_core.specs.Logs.{Setting};
+ghost use Rattle.onvm_promises.specs.Sampling.{is_cost};
+ghost use Rattle.rx_feed.specs.declared.fault.FeedFault.{FeedFault as FaultView};
+ghost use Rattle.onvm_session.specs.Accounts.{IsAccounted};
+ghost use Rattle.onvm_session.specs.Moments.{moment_of_round};
+ghost use Rattle.onvm_session.specs.RoleStates.{acts_by, start_by};
+ghost use Rattle.onvm_session.specs.Runs.{any_moment, told_fault, view_of_run};
+ghost use Rattle.onvm_session.specs.declared.run.Stop.TheVariants.{Memory};
+
+use crate::leaving::Leavings;
+use crate::lists::Gathered;
+use crate::manager::{FIRST_WORD, Manager};
+use crate::role::Role;
+use crate::run::{Counters, Ended, Run, Stop, stop_of};
+use load_estimate::{Samples, Ticks};
+use nf_api::NetFunction;
+use onvm_base::{ListOf, NoMemory, Plan, PortId};
+use onvm_board::Closed;
+use onvm_host::Source;
+use onvm_promises::Pass;
+use std::alloc::Global;
+
+// The run of these lists and this board.
+fn run_of(
+    gathered: Gathered,
+    samples: Samples,
+    ticks: Ticks,
+    closed: Closed,
+) -> Result<Run, NoMemory> {
+    let lists = gathered.into_lists()?;
+    Ok(Run {
+        records: lists.records,
+        sent: lists.sent,
+        posts: lists.posts,
+        samples,
+        ticks,
+        counters: Counters {
+            yields: lists.yields,
+            lost: lists.lost,
+        },
+        closed,
+    })
+}
+
+impl<I: Drop> Leavings<I> {
+    // The feeds, and the run of the lists and of this board.
+    fn end(self, closed: Closed) -> Ended<I> {
+        let outcome = if self.complete {
+            run_of(self.gathered, self.samples, self.ticks, closed)
+        } else {
+            Err(NoMemory)
+        };
+        Ended {
+            outcome: match outcome {
+                Ok(run) => Ok(run),
+                Err(NoMemory) => Err(Stop::Memory),
+            },
+            feeds: ListOf::from_vec(self.feeds),
+        }
+    }
+}
+
+impl<I: Source + Drop, N: NetFunction> Manager<I, N> {
+    ghost use Rattle.onvm_session.specs.Leaving.{feeds_of};
+    ghost use Rattle.onvm_session.specs.Managers.{AllGrow, FitsAll, HasFault, IsManager, IsOver, IsUnderway, OfEach, place_now, round_now};
+    ghost use Rattle.onvm_session.specs.RoleStates.{IsUpTo, fault_of};
+    ghost use Rattle.onvm_session.specs.declared.role.Role.{Role as RoleView};
+
+    /// Reads the captures of the ports to their ends, in order, up to the first port that has a fault.
+    pub fn find_fault(&mut self, alloc: Global) -> Stop
+        requires { (r : ℕ) × (role : RoleView I N) × (slice_get self.old.roles.items r ≡ Some role)
+            × IsSome (fault_of role) }
+        ensures told { (port : ℕ) (fault : FaultView) → told_fault result ≡ Some (port, fault)
+            → HasFault self.new.roles.items port fault }
+        ensures grow { AllGrow I.name I.left I.takes self.old self.new }
+    {
+        for at in 0..self.roles.len() {
+            if self.roles[at].drain(alloc).is_err() {
+                return Stop::Memory;
+            }
+            if let Some(fault) = self.roles[at].fault() {
+                return stop_of(PortId(at as u8), fault);
+            }
+        }
+        unreachable!()
+    }
+
+    /// The session stops, and the feeds are handed back.
+    pub fn hand_back(self, alloc: Global, stop: Stop) -> Ended<I>
+        requires room { vec_len self.feeds + length (feeds_of self.roles.items) ≤ vec_capacity self.feeds }
+        ensures outcome { result.outcome ≡ Err stop }
+        ensures feeds { result.feeds ≡ self.feeds.items ++ feeds_of self.roles.items }
+    {
+        let mut leavings = Leavings::make(alloc, self.feeds);
+        leavings.add_all(self.roles);
+        Ended {
+            outcome: Err(stop),
+            feeds: ListOf::from_vec(leavings.feeds),
+        }
+    }
+
+    // The last turn: the tick role makes its closing pass at the last round's moment.
+    fn closing_turn(&mut self, plan: &Plan, now: u64) -> Result<(), NoMemory>
+    {
+        let number = u32::from(self.layout.ports)
+            + u32::from(self.layout.transmit)
+            + u32::from(self.layout.cores);
+        let mut token = self.board.split(&mut self.first, number);
+        let Role::Tick(role) = &mut self.roles[number as usize] else {
+            unreachable!()
+        };
+        match role.pass(&mut token, &self.board, plan, now, true) {
+            Pass::Did(_) | Pass::Idle => {}
+            Pass::Wanting | Pass::Stopped => return Err(NoMemory),
+        }
+        self.board.join(&mut self.first, token);
+        self.board.look(&mut self.first, FIRST_WORD);
+        Ok(())
+    }
+
+    /// Makes the closing turn, closes the board, and puts the lists together.
+    pub fn finish(mut self, alloc: Global, plan: &Plan, now: u64) -> Ended<I>
+        requires manager { IsManager N.acts N.state is_cost plan.now self }
+        requires upto { OfEach (λ r role. IsUpTo now role) self.roles.items }
+        requires place { place_now self ≡ 0 }
+        requires some { 0 < round_now self }
+        requires now { now ≡ moment_of_round (round_now self - 1) }
+        requires over { IsOver self }
+        requires room { vec_len self.feeds + length (feeds_of self.roles.items) ≤ vec_capacity self.feeds }
+        ensures feeds { result.feeds ≡ self.feeds.items ++ feeds_of self.roles.items }
+        ensures stop { IfErr result.outcome (λ stop. stop ≡ Memory) }
+        ensures done { IfOk result.outcome (λ run. (units : List N) (setting : Setting)
+            → FitsAll plan.now setting self
+            → IsUnderway N.acts N.state true any_moment is_cost 0 units setting self
+            → IsAccounted true any_moment is_cost (acts_by N.acts N.state units) (start_by N.acts N.state units)
+            setting (view_of_run run)) }
+    {
+        if self.closing_turn(plan, now).is_err() {
+            return self.hand_back(alloc, Stop::Memory);
+        }
+        let closed = self.board.close(self.first);
+        let mut leavings = Leavings::make(alloc, self.feeds);
+        leavings.add_all(self.roles);
+        leavings.end(closed)
+    }
+}

@@ -1,0 +1,89 @@
+//! What the roles of a session leave.
+ghost use Rattle.std.specs.Prelude.{◌≡◌, ◌+◌, ◌≤◌, ◌++◌, [], length, true, vec_capacity, vec_len};
+
+use crate::lists::Gathered;
+use crate::role::Role;
+use load_estimate::{Samples, Ticks};
+use onvm_base::{ListOf, Posts, Records, SentFrames};
+use rx_feed::Feed;
+use std::alloc::Global;
+
+/// The feeds and lists of the roles that have left so far.
+#[derive(Drop)]
+pub struct Leavings<I> {
+    // With room for the feeds of those that haven't left yet.
+    pub feeds: Vec<Feed<I>>,
+    pub gathered: Gathered,
+    pub samples: Samples,
+    pub ticks: Ticks,
+    // No memory was wanting for the lists.
+    pub complete: bool,
+}
+
+impl<I: Drop> Leavings<I> {
+    ghost use Rattle.onvm_session.specs.Leaving.{HasLeft, feeds_of};
+
+    /// Of no role, with this list for feeds.
+    pub fn make(alloc: Global, feeds: Vec<Feed<I>>) -> Leavings<I>
+        ensures feeds { result.feeds ≡ feeds }
+        ensures records { result.gathered.records.items ≡ [] }
+        ensures sent { result.gathered.sent.items ≡ [] }
+        ensures posts { result.gathered.posts.items ≡ [] }
+        ensures yields { (result.gathered.yields ≡ 0) × (result.gathered.lost ≡ 0) }
+        ensures complete { result.complete ≡ true }
+    {
+        Leavings {
+            feeds,
+            gathered: Gathered::make(alloc),
+            samples: ListOf::make(alloc),
+            ticks: ListOf::make(alloc),
+            complete: true,
+        }
+    }
+
+    /// One more role leaves.
+    pub fn add<N: Drop>(&mut self, role: Role<I, N>)
+        requires room { vec_len self.old.feeds + length (feeds_of (role ∷ [])) ≤ vec_capacity self.old.feeds }
+        ensures left { HasLeft role self.old self.new }
+    {
+        match role {
+            Role::Receive(role) => {
+                let kept = role.end();
+                if let Some(feed) = kept.feed {
+                    self.feeds.push_reserved(feed);
+                }
+                self.add_feeder(kept.records, kept.sent, kept.posts);
+            }
+            Role::Send(role) => {
+                let kept = role.end();
+                self.add_feeder(kept.records, kept.sent, kept.posts);
+            }
+            Role::Handle(role) => {
+                let kept = role.end();
+                self.gathered.add_core(kept.yields, kept.lost);
+            }
+            Role::Tick(role) => {
+                let kept = role.end();
+                self.samples = kept.samples;
+                self.ticks = kept.ticks;
+            }
+        }
+    }
+
+    fn add_feeder(&mut self, records: Records, sent: SentFrames, posts: Posts)
+    {
+        if self.gathered.add_feeder(records, sent, posts).is_err() {
+            self.complete = false;
+        }
+    }
+
+    /// All these roles leave, in order.
+    pub fn add_all<N: Drop>(&mut self, roles: Vec<Role<I, N>>)
+        requires room { vec_len self.old.feeds + length (feeds_of roles.items) ≤ vec_capacity self.old.feeds }
+        ensures left { HaveLeft roles.items self.old self.new }
+    {
+        for role in roles {
+            self.add(role);
+        }
+    }
+}
