@@ -26,7 +26,7 @@ use Rattle.onvm_session.proofs.LastRound.{closing_takes_none, no_samples}
 use Rattle.onvm_session.proofs.Passing.{Passed, passed_of, so_far_blocks}
 use Rattle.onvm_session.proofs.Phasing.{closing_of, phased_lead}
 use Rattle.onvm_session.proofs.Serial.{serial_end}
-use Rattle.onvm_session.proofs.Session.{pass_roles, pass_whole, timed_pass}
+use Rattle.onvm_session.proofs.KeptByTurns.{pass_roles, pass_whole, timed_pass}
 use Rattle.onvm_session.proofs.TickTurns.{all_closed, never_fall, rounds_closed, told_now}
 use Rattle.onvm_session.specs.Accounts.{AreShares, IsAccounted, IsWhole, RunView, aged_of}
 use Rattle.onvm_session.specs.Endings.{AreViewMoments, Closes, HasEnded, HasLists, IsClosed, IsClosingMoment, closing_moments}

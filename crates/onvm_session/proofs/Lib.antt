@@ -6,9 +6,11 @@ pub mod Done
 pub mod ExampleAccount
 pub mod ExampleSteps
 pub mod ExampleTurns
+pub mod Growing
 pub mod IdleAccount
 pub mod IdleRound
 pub mod IdleRun
+pub mod KeptByTurns
 pub mod LastRound
 pub mod Leading
 pub mod Listing
@@ -32,7 +34,6 @@ pub mod Rounds
 pub mod Seating
 pub mod Serial
 pub mod SerialTicking
-pub mod Session
 pub mod SessionLists
 pub mod Starting
 pub mod Stepping

@@ -22,7 +22,7 @@ use Rattle.onvm_session.proofs.OverloadPromises.{handles_first, handles_second, 
 use Rattle.onvm_session.proofs.OverloadReceive.{held_log, receive_log, turned_back}
 use Rattle.onvm_session.proofs.OverloadSend.{first_moved, send_log, two_moved}
 use Rattle.onvm_session.proofs.OverloadTick.{taken, three_taken, two_taken}
-use Rattle.onvm_session.proofs.Session.{turn_keeps}
+use Rattle.onvm_session.proofs.KeptByTurns.{turn_keeps}
 use Rattle.onvm_session.proofs.Starting.{session_starts}
 
 -- Where a session stands: the functions' states, the moments of acts, the first token's view, and what roles keep

@@ -1,5 +1,6 @@
 pub mod Accounts
 pub mod Boards
+pub mod Closings
 pub mod Endings
 pub mod Gathering
 pub mod Leaving

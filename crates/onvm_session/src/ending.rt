@@ -4,6 +4,7 @@ ghost use Rattle.onvm_core.specs.Logs.{Setting};
 ghost use Rattle.onvm_promises.specs.Sampling.{is_cost};
 ghost use Rattle.rx_feed.specs.declared.fault.FeedFault.{FeedFault as FaultView};
 ghost use Rattle.onvm_session.specs.Accounts.{IsAccounted};
+ghost use Rattle.onvm_session.specs.Closings.{IsClosingTurn, IsRunOfLists};
 ghost use Rattle.onvm_session.specs.Moments.{moment_of_round};
 ghost use Rattle.onvm_session.specs.RoleStates.{acts_by, start_by};
 ghost use Rattle.onvm_session.specs.Runs.{any_moment, told_fault, view_of_run};
@@ -22,14 +23,22 @@ use onvm_host::Source;
 use onvm_promises::Pass;
 use std::alloc::Global;
 
-// The run of these lists and this board.
+// The run of these lists and this board, where all lists are complete.
 fn run_of(
+    complete: bool,
     gathered: Gathered,
     samples: Samples,
     ticks: Ticks,
     closed: Closed,
-) -> Result<Run, NoMemory> {
-    let lists = gathered.into_lists()?;
+) -> Result<Run, Stop>
+    ensures { IsRunOfLists complete gathered samples ticks closed result }
+{
+    if !complete {
+        return Err(Stop::Memory);
+    }
+    let Ok(lists) = gathered.into_lists() else {
+        return Err(Stop::Memory);
+    };
     Ok(Run {
         records: lists.records,
         sent: lists.sent,
@@ -46,18 +55,20 @@ fn run_of(
 
 impl<I: Drop> Leavings<I> {
     // The feeds, and the run of the lists and of this board.
-    fn end(self, closed: Closed) -> Ended<I> {
-        let outcome = if self.complete {
-            run_of(self.gathered, self.samples, self.ticks, closed)
-        } else {
-            Err(NoMemory)
-        };
+    fn end(self, closed: Closed) -> Ended<I>
+        ensures feeds { result.feeds ≡ self.feeds.items }
+        ensures run { IsRunOfLists self.complete self.gathered self.samples self.ticks closed result.outcome }
+    {
+        let Leavings {
+            feeds,
+            gathered,
+            samples,
+            ticks,
+            complete,
+        } = self;
         Ended {
-            outcome: match outcome {
-                Ok(run) => Ok(run),
-                Err(NoMemory) => Err(Stop::Memory),
-            },
-            feeds: ListOf::from_vec(self.feeds),
+            outcome: run_of(complete, gathered, samples, ticks, closed),
+            feeds: ListOf::from_vec(feeds),
         }
     }
 }
@@ -103,6 +114,11 @@ impl<I: Source + Drop, N: NetFunction> Manager<I, N> {
 
     // The last turn: the tick role makes its closing pass at the last round's moment.
     fn closing_turn(&mut self, plan: &Plan, now: u64) -> Result<(), NoMemory>
+        requires manager { IsManager N.acts N.state is_cost plan.now self.old }
+        requires upto { OfEach (λ r role. IsUpTo now role) self.old.roles.items }
+        ensures turn { OnOk result (IsClosingTurn plan.now now self.old self.new) }
+        ensures feeds { (feeds_of self.new.roles.items ≡ feeds_of self.old.roles.items)
+            × (self.new.feeds ≡ self.old.feeds) }
     {
         let number = u32::from(self.layout.ports)
             + u32::from(self.layout.transmit)

@@ -1,5 +1,5 @@
 //! What the roles of a session leave.
-ghost use Rattle.std.specs.Prelude.{◌≡◌, ◌+◌, ◌≤◌, ◌++◌, [], length, true, vec_capacity, vec_len};
+ghost use Rattle.std.specs.Prelude.{◌≡◌, ◌+◌, ◌≤◌, ◌++◌, ◌∷◌, [], length, option_to_list, true, vec_capacity, vec_len};
 
 use crate::lists::Gathered;
 use crate::role::Role;
@@ -21,7 +21,7 @@ pub struct Leavings<I> {
 }
 
 impl<I: Drop> Leavings<I> {
-    ghost use Rattle.onvm_session.specs.Leaving.{HasLeft, feeds_of};
+    ghost use Rattle.onvm_session.specs.Leaving.{HasLeft, HaveLeft, feeds_of};
 
     /// Of no role, with this list for feeds.
     pub fn make(alloc: Global, feeds: Vec<Feed<I>>) -> Leavings<I>
@@ -49,9 +49,7 @@ impl<I: Drop> Leavings<I> {
         match role {
             Role::Receive(role) => {
                 let kept = role.end();
-                if let Some(feed) = kept.feed {
-                    self.feeds.push_reserved(feed);
-                }
+                self.add_feed(kept.feed);
                 self.add_feeder(kept.records, kept.sent, kept.posts);
             }
             Role::Send(role) => {
@@ -67,6 +65,17 @@ impl<I: Drop> Leavings<I> {
                 self.samples = kept.samples;
                 self.ticks = kept.ticks;
             }
+        }
+    }
+
+    fn add_feed(&mut self, feed: Option<Feed<I>>)
+        requires room { vec_len self.old.feeds + length (option_to_list feed) ≤ vec_capacity self.old.feeds }
+        ensures feeds { self.new.feeds.items ≡ self.old.feeds.items ++ option_to_list feed }
+        ensures room { vec_capacity self.new.feeds ≡ vec_capacity self.old.feeds }
+        ensures same { self.new ≡ record self.old { feeds = self.new.feeds } }
+    {
+        if let Some(feed) = feed {
+            self.feeds.push_reserved(feed);
         }
     }
 

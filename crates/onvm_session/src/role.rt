@@ -1,14 +1,11 @@
 //! A role of a session, of whatever kind.
-ghost use Rattle.std.specs.Prelude.{◌≡◌, ◌≢◌, ◌↔◌, ◌≤◌, ◌++◌, ℕ, IsSome, List, OnOk, Option, length, true, false};
-ghost use Rattle.onvm_base.specs.declared.frame.Frame.{Frame as FrameView};
+ghost use Rattle.std.specs.Prelude.{◌≡◌, ◌≢◌, ◌↔◌, ◌≤◌, [], ℕ, IsSome, List, OnOk, Option, length, true, false};
 ghost use Rattle.onvm_core.specs.Blocks.{kind_of};
 ghost use Rattle.onvm_core.specs.Logs.{Setting};
-ghost use Rattle.onvm_host.specs.Deeds.{Amounts};
 ghost use Rattle.onvm_promises.specs.Answers.{is_complete};
 ghost use Rattle.onvm_promises.specs.Kept.{moment_then};
-ghost use Rattle.onvm_promises.specs.declared.pass.Pass.TheVariants.{Stopped, Wanting};
+ghost use Rattle.onvm_promises.specs.declared.pass.Pass.TheVariants.{Stopped};
 ghost use Rattle.nf_api.specs.Tree.{Tree};
-ghost use Rattle.rx_feed.specs.Feeds.{IsTakenFrom, StaysFeed};
 ghost use Rattle.onvm_session.specs.Sessions.{IsRolePass};
 
 use nf_api::NetFunction;
@@ -66,6 +63,7 @@ impl<I: Source, N: NetFunction> Role<I, N> {
             self.new }
         ensures ready { IsReady N.acts N.state (C.may_span clock.now) board.now plan.now token.new self.new }
         ensures same { (token.new.board ≡ token.old.board) × (token.new.role ≡ token.old.role) }
+        ensures empty_handed { token.old.hand ≡ [] → is_complete result ≡ true → token.new.hand ≡ [] }
         ensures upto { IsUpTo now self.new }
         ensures first { (first : ℕ) → StartedAt first self.old → StartedAt first self.new }
         ensures bound { (units : List N) → IsBoundTo N.acts N.state board.now.layout token.old.role units self.old

@@ -1,4 +1,4 @@
-use Rattle.onvm_session.proofs.Session.{phase_keeps}
+use Rattle.onvm_session.proofs.KeptByTurns.{phase_keeps}
 use Rattle.onvm_session.proofs.laws.a_phase_keeps_a_session.Goals as goal
 
 pub returns : goal.returns

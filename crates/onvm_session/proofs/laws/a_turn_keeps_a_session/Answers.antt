@@ -1,4 +1,4 @@
-use Rattle.onvm_session.proofs.Session.{turn_keeps}
+use Rattle.onvm_session.proofs.KeptByTurns.{turn_keeps}
 use Rattle.onvm_session.proofs.laws.a_turn_keeps_a_session.Goals as goal
 
 pub returns : goal.returns
