@@ -222,6 +222,7 @@ impl<N: NetFunction> CoreRole<N> {
             token.new.log (counted self.new) result }
         ensures role { IsCoreRole N.acts N.state board.now plan.now token.new self.new }
         ensures began { self.new.began ≡ self.old.began }
+        ensures functions { functions_of self.new.stations.items ≡ functions_of self.old.stations.items }
 
         // Only a function wants memory: its frame is kept.
         ensures wanting { result ≡ Wanting → core_hand token.new.log ≢ None }

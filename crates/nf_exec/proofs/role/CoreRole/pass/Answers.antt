@@ -76,3 +76,7 @@ returns-clause-wanting g c e =
     kept_some _ _ _ c.mail_all.ensures.work.kept
     (was_not (is_some c.mail_all.new.self.kept)
     (ap is_complete (sym e) ∙ c.answer_of.ensures.whole ∙ ap not c.is_some.ensures))
+
+pub returns-clause-functions : goal.returns-clause-functions
+returns-clause-functions g c =
+    c.mail_all.ensures.functions ∙ c.serve_all.ensures.functions ∙ c.handle_kept.ensures.functions
