@@ -25,7 +25,7 @@ use Rattle.onvm_session.specs.declared.role.Role.{Role}
 use Rattle.onvm_session.specs.declared.rooms.Beginning.{Beginning}
 use Rattle.onvm_session.specs.declared.rooms.Rooms.{Rooms}
 use Rattle.onvm_session.specs.Managers.{OfEach}
-use Rattle.onvm_session.specs.RoleStates.{FitsOne, IsBoundTo, IsFed, IsReady, IsRoleInOrder, IsUpTo, StartedAt}
+use Rattle.onvm_session.specs.RoleStates.{FitsOne, HasStates, IsBoundTo, IsFed, IsReady, IsRoleInOrder, IsUpTo, StartedAt, keeps_of, start_by}
 
 -- Rooms
 
@@ -105,6 +105,9 @@ module _ {I N : Type 0} (name_of : I → List ℕ) (left_of : I → Option (List
         → IsRoleInOrder setting r moment [] role
     pub started : StartedAt 0 role
     pub bound : IsBoundTo acts state site.layout r units role
+    -- its functions are in the states of their units
+    pub states : HasStates acts state site.layout r role (start_by acts state units)
+    pub unticked : (keeps_of role).ticks ≡ []
     pub fed : IsFed name_of left_of takes_of (slice_get feeds r) role
     pub upto : IsUpTo 0 role
 
