@@ -1,5 +1,5 @@
 -- Roles that go on: what fits later ones fits the earlier ones.
-use Rattle.std.proofs.Common.{◌≡◌, ◌≢◌, ℕ, zero, suc, ◌+◌, ◌<◌, Bool, true, false, inl, inr, List, [], ◌∷◌, ◌++◌, length, refl, sym, ◌∙◌, ap, subst, arith, append_assoc, Some, None}
+use Rattle.std.proofs.Common.{◌≡◌, ◌≢◌, ℕ, zero, suc, ◌+◌, ◌<◌, ◌≤◌, Bool, true, false, inl, inr, List, [], ◌∷◌, ◌++◌, length, refl, sym, ◌∙◌, ap, subst, arith, append_assoc, Some, None}
 use Rattle.std.specs.Prelude.{slice_get}
 use Rattle.std.proofs.lemmas.Bool.{cases_Bool}
 use Rattle.onvm_base.specs.declared.frame.Frame.{Frame}
@@ -32,6 +32,14 @@ pub got_some : {A : Type 0} (xs : List A) (at : ℕ) → at < length xs → (x :
 got_some [] at less = absurd (omega (arith, less))
 got_some (y ∷ ys) zero less = (y, refl)
 got_some (y ∷ ys) (suc at) less = got_some ys at (omega (arith, less))
+
+pub got_none : {A : Type 0} (xs : List A) (at : ℕ) → length xs ≤ at → slice_get xs at ≡ None
+got_none [] at past = refl
+got_none (y ∷ ys) zero past = absurd (omega (arith, past))
+got_none (y ∷ ys) (suc at) past = got_none ys at (omega (arith, past))
+
+pub some_inj : {A : Type 0} (x y : A) → Some x ≡ Some y → x ≡ y
+some_inj x y same = cc same
 
 -- Entries
 

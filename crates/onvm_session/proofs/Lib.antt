@@ -1,5 +1,6 @@
 pub mod Accounted
 pub mod Ascending
+pub mod Beginnings
 pub mod Boarding
 pub mod Closing
 pub mod Done
@@ -7,6 +8,7 @@ pub mod ExampleAccount
 pub mod ExampleSteps
 pub mod ExampleTurns
 pub mod Growing
+pub mod HandingBack
 pub mod IdleAccount
 pub mod IdleRound
 pub mod IdleRun

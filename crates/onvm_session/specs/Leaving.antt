@@ -1,9 +1,10 @@
 -- What roles leave: their feeds, and the lists that they kept.
 use Rattle.std.specs.Prelude.{ℕ, ◌≡◌, ◌+◌, Bool, true, List, [], ◌∷◌, ◌++◌, length, option_to_list, vec_capacity}
 use Rattle.load_estimate.specs.declared.sample.Sample.{Sample}
-use Rattle.load_estimate.specs.declared.tick.Tick.{Tick}
+use Rattle.load_estimate.specs.declared.tick.Tick.{Tick as TickView}
 use Rattle.onvm_promises.specs.Kept.{at_most_64_bits}
 use Rattle.rx_feed.specs.declared.feed.Feed.{Feed}
+use Rattle.tick_pass.specs.Roles.{logged, ticked}
 use Rattle.onvm_session.specs.declared.leaving.Leavings.{Leavings}
 use Rattle.onvm_session.specs.declared.role.Role.{Role}
 use Rattle.onvm_session.specs.declared.role.Role.TheVariants.{Receive, Send, Handle, Tick}
@@ -26,13 +27,13 @@ abbrev pub samples_after : {I N : Type 0} → Role I N → List Sample → List 
 samples_after (Receive rx) was = was
 samples_after (Send tx) was = was
 samples_after (Handle core) was = was
-samples_after (Tick tick) was = (keeps_of {_} {_} (Tick tick)).samples
+samples_after (Tick tick) was = logged tick
 
-abbrev pub ticks_after : {I N : Type 0} → Role I N → List Tick → List Tick
+abbrev pub ticks_after : {I N : Type 0} → Role I N → List TickView → List TickView
 ticks_after (Receive rx) was = was
 ticks_after (Send tx) was = was
 ticks_after (Handle core) was = was
-ticks_after (Tick tick) was = (keeps_of {_} {_} (Tick tick)).ticks
+ticks_after (Tick tick) was = ticked tick
 
 -- a role has left
 pub record HasLeft {I N : Type 0} (role : Role I N) (old new : Leavings I) : Type 0 where

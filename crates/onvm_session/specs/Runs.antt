@@ -44,12 +44,12 @@ told_fault (Capture port broken) = Some (port.0, fault.Capture broken)
 told_fault (TooMany port) = Some (port.0, fault.TooMany)
 told_fault Memory = None
 
-module _ {I : Type 0} (name_of : I → List ℕ) (left_of : I → Option (List ℕ)) (takes_of : I → Amounts) where
-  -- each feed is handed back, port by port
-  pub record AreHandedBack (feeds back : List (Feed I)) : Type 0 where
-    pub many : length back ≡ length feeds
-    pub stay : (port : ℕ) → StaysFeed name_of (slice_get feeds port) (slice_get back port)
+-- each feed is handed back, port by port
+pub record AreHandedBack {I : Type 0} (name_of : I → List ℕ) (feeds back : List (Feed I)) : Type 0 where
+  pub many : length back ≡ length feeds
+  pub stay : (port : ℕ) → StaysFeed name_of (slice_get feeds port) (slice_get back port)
 
+module _ {I : Type 0} (name_of : I → List ℕ) (left_of : I → Option (List ℕ)) (takes_of : I → Amounts) where
   -- the port stands so with its feed
   abbrev pub StandsWith : (feeds back : List (Feed I)) → (port : ℕ) → Standing → Type 0
   StandsWith feeds back port standing =
@@ -73,7 +73,7 @@ module _ {I : Type 0} (name_of : I → List ℕ) (left_of : I → Option (List �
     pub fault_is : standing.fault ≡ Some fault
     pub lower : (p : ℕ) → p < port → (s : Standing) × StandsWith feeds back p s × (s.ended ≡ true)
 
-  -- a stop that isn't want of memory is a port's
+  -- a stop that isn't for want of memory is a port's
   abbrev pub IsStop : Plan → (feeds back : List (Feed I)) → Stop → Type 0
   IsStop plan feeds back stop =
       (port : ℕ) (fault : FeedFault) → told_fault stop ≡ Some (port, fault) → HasStopped plan feeds back port fault

@@ -1,5 +1,5 @@
 //! How a session ends.
-ghost use Rattle.std.specs.Prelude.{◌≡◌, ◌+◌, ◌-◌, ◌<◌, ◌≤◌, ◌++◌, ℕ, Err, IfErr, IfOk, IsSome, List, OnErr, OnOk, Some, length, slice_get, vec_capacity, vec_len};
+ghost use Rattle.std.specs.Prelude.{◌≡◌, ◌+◌, ◌-◌, ◌<◌, ◌≤◌, ◌++◌, ℕ, Err, IfErr, IfOk, IsSome, List, OnErr, OnOk, Some, length, slice_get, true, vec_capacity, vec_len};
 ghost use Rattle.onvm_core.specs.Logs.{Setting};
 ghost use Rattle.onvm_promises.specs.Sampling.{is_cost};
 ghost use Rattle.rx_feed.specs.declared.fault.FeedFault.{FeedFault as FaultView};
