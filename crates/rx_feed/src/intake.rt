@@ -1,5 +1,5 @@
 //! A port's frames, one after another.
-ghost use Rattle.std.specs.Prelude.{◌≡◌, ◌≢◌, ◌+◌, ◌<◌, ◌≤◌, ◌∷◌, ◌++◌, [], ℕ, List, Option, true, false, IfOk, IsSome, IsTrue, ◌↔◌, None, OnErr, OnOk, Ok, Some, length, option_to_list};
+ghost use Rattle.std.specs.Prelude.{◌≡◌, ◌≢◌, ◌+◌, ◌<◌, ◌≤◌, ◌∷◌, ◌++◌, [], ℕ, List, Option, true, false, IfOk, IsOk, IsSome, IsTrue, ◌↔◌, None, OnErr, OnOk, Ok, Some, length, option_to_list};
 ghost use Rattle.onvm_base.specs.declared.frame.Frame.{Frame};
 ghost use Rattle.onvm_host.specs.Deeds.{Amounts};
 ghost use Rattle.rx_feed.specs.Feeds.{IsFreshFeed, IsPulledOf, IsTakenFrom, StaysFeed, WasLeft, fresh_standing};
@@ -101,6 +101,7 @@ impl<I: Source> Intake<I> {
     pub fn drain(&mut self, alloc: Global) -> Result<(), NoMemory>
         ensures ok { OnOk result (HasStopped self.new.standing) }
         ensures more { (frames : List Frame) × (self.new.standing.pulled ≡ self.old.standing.pulled ++ frames) }
+        ensures stopped { HasStopped self.old.standing → IsOk result × (self.new ≡ self.old) }
         ensures frames { IsPulledOf self.new.feed self.new.standing }
         ensures since { (left : Option (List ℕ)) (takes : Amounts)
             → IsTakenFrom I.left I.takes left takes self.old.feed self.old.standing

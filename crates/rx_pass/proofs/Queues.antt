@@ -48,6 +48,20 @@ pub queue_more : (pulled earlier waiting : List Frame) (frame : Frame) → pulle
 queue_more pulled earlier waiting frame split =
     ap (λ t. t ++ frame ∷ []) split ∙ append_assoc earlier waiting (frame ∷ [])
 
+pub frames_then : (a b c more : List Frame) (frame : Frame) → b ≡ a ++ more → c ≡ b ++ frame ∷ [] → c ≡ a ++ (more ++ frame ∷ [])
+frames_then a b c more frame first then = then ∙ ap (λ t. t ++ frame ∷ []) first ∙ append_assoc a more (frame ∷ [])
+
+pub done_same : (pulled waiting pulled' waiting' : List Frame) (frame : Frame) → pulled' ≡ pulled ++ frame ∷ []
+    → waiting' ≡ waiting ++ frame ∷ [] → length pulled' - length waiting' ≡ length pulled - length waiting
+done_same pulled waiting pulled' waiting' frame grew waits =
+    omega (
+      arith,
+      ap (length {A = Frame}) grew,
+      ap (length {A = Frame}) waits,
+      length-append pulled (frame ∷ []),
+      length-append waiting (frame ∷ []),
+    )
+
 pub queue_less : (pulled earlier rest : List Frame) (frame : Frame) → pulled ≡ earlier ++ frame ∷ rest
     → pulled ≡ (earlier ++ frame ∷ []) ++ rest
 queue_less pulled earlier rest frame split = split ∙ sym (append_assoc earlier (frame ∷ []) rest)

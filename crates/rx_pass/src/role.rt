@@ -1,5 +1,5 @@
 //! A receive role.
-ghost use Rattle.std.specs.Prelude.{◌≡◌, ◌≢◌, ◌⊎◌, ◌↔◌, IsSome, ◌+◌, ◌-◌, ◌<◌, ◌≤◌, ◌++◌, List, [], ℕ, Bool, Option, OnErr, OnOk, length, true, false, Some, None};
+ghost use Rattle.std.specs.Prelude.{◌≡◌, ◌≢◌, ◌⊎◌, ◌↔◌, IsOk, IsSome, ◌+◌, ◌-◌, ◌<◌, ◌≤◌, ◌++◌, List, [], ℕ, Bool, Option, OnErr, OnOk, length, true, false, Some, None};
 ghost use Rattle.onvm_base.specs.declared.frame.Frame.{Frame};
 ghost use Rattle.onvm_base.specs.declared.ids.PortId.{PortId};
 ghost use Rattle.onvm_core.specs.Layouts.{IsLayoutOf};
@@ -76,6 +76,9 @@ impl<I: Source> RxRole<I> {
             → IsTakenFrom I.left I.takes left takes self.old.intake.feed self.old.intake.standing
             → IsTakenFrom I.left I.takes left takes self.new.intake.feed self.new.intake.standing }
         ensures feed { StaysFeed I.name self.old.intake.feed self.new.intake.feed }
+        ensures more { (frames : List Frame)
+            × (self.new.intake.standing.pulled ≡ self.old.intake.standing.pulled ++ frames) }
+        ensures ended { HasStopped self.old.intake.standing → self.new.intake.standing ≡ self.old.intake.standing }
         ensures stopped { result ≢ Wanting → (result ≡ Stopped) ↔ IsSome self.new.intake.standing.fault }
 
         // Each frame pulled has its block, but where memory was wanting: then nothing was stepped, and at
@@ -111,6 +114,9 @@ impl<I: Source> RxRole<I> {
             → IsTakenFrom I.left I.takes left takes self.old.intake.feed self.old.intake.standing
             → IsTakenFrom I.left I.takes left takes self.new.intake.feed self.new.intake.standing }
         ensures feed { StaysFeed I.name self.old.intake.feed self.new.intake.feed }
+        ensures more { (frames : List Frame)
+            × (self.new.intake.standing.pulled ≡ self.old.intake.standing.pulled ++ frames) }
+        ensures ended { HasStopped self.old.intake.standing → self.new.intake.standing ≡ self.old.intake.standing }
         ensures kept { keeps_of self.new ≡ keeps_of self.old }
         ensures feeder { self.new.inlet.feeder ≡ record self.old.inlet.feeder { room = self.new.inlet.feeder.room } }
         ensures post { OnOk result (1 ≤ self.new.inlet.feeder.room) }
@@ -138,6 +144,9 @@ impl<I: Source> RxRole<I> {
             → IsTakenFrom I.left I.takes left takes self.old.intake.feed self.old.intake.standing
             → IsTakenFrom I.left I.takes left takes self.new.intake.feed self.new.intake.standing }
         ensures feed { StaysFeed I.name self.old.intake.feed self.new.intake.feed }
+        ensures more { (frames : List Frame)
+            × (self.new.intake.standing.pulled ≡ self.old.intake.standing.pulled ++ frames) }
+        ensures ended { HasStopped self.old.intake.standing → self.new.intake.standing ≡ self.old.intake.standing }
         ensures same { (self.new.flows ≡ self.old.flows) × (self.new.inlet ≡ self.old.inlet) }
     {
         'frames: loop {
@@ -258,6 +267,7 @@ impl<I: Source> RxRole<I> {
         ensures ok { OnOk result (HasStopped self.new.intake.standing) }
         ensures more { (frames : List Frame)
             × (self.new.intake.standing.pulled ≡ self.old.intake.standing.pulled ++ frames) }
+        ensures stopped { HasStopped self.old.intake.standing → IsOk result × (self.new ≡ self.old) }
         ensures frames { IsPulledOf self.new.intake.feed self.new.intake.standing }
         ensures since { (left : Option (List ℕ)) (takes : Amounts)
             → IsTakenFrom I.left I.takes left takes self.old.intake.feed self.old.intake.standing

@@ -5,7 +5,7 @@ use Rattle.rx_pass.proofs.Examples.{unused_at_start}
 use Rattle.rx_pass.proofs.tests.Receiver.start.Goals as goal
 
 pub returns : goal.returns
-returns c =
+returns g c =
     let port : PortId = record { 0 = 0 } in
     let new = c.start-role.ensures.role c.args.board.now c.args.plan.now port c.requires.plan c.in_ok-room.ensures in
     let token = c.split-token.ensures.role in
