@@ -31,8 +31,9 @@ use Rattle.nf_exec.specs.Stations.{IsStation, Stands, in_hand}
 use Rattle.nf_exec.specs.Steps.IsServiceStep.{APush}
 use Rattle.nf_exec.proofs.Elsewhere.{services_elsewhere}
 use Rattle.nf_exec.proofs.Servings.{stood_still}
-use Rattle.nf_exec.proofs.Turning.{made, pass_act, pass_does, pass_journal, pass_stands}
-use Rattle.nf_exec.proofs.Working.{at_set, function_at, functions_long, work_on}
+use Rattle.nf_exec.proofs.HandingOn.{made, pass_act, pass_does, pass_journal, pass_stands}
+use Rattle.nf_exec.proofs.Working.{work_on}
+use Rattle.nf_exec.proofs.StationLists.{at_set, function_at, functions_long}
 
 -- Nothing waits for a sample exactly where the last push has one behind it
 

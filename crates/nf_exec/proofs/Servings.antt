@@ -34,7 +34,8 @@ use Rattle.nf_exec.specs.Stations.{Stands}
 use Rattle.nf_exec.specs.Steps.{DoesFrom, MayDo}
 use Rattle.nf_exec.specs.Steps.IsServiceStep.{APush}
 use Rattle.nf_exec.proofs.Doing.{does_append}
-use Rattle.nf_exec.proofs.Turning.{made, pass_act, pass_does, pass_left, pass_pushes, pass_stands, steps_append}
+use Rattle.nf_exec.proofs.Glancing.{steps_append}
+use Rattle.nf_exec.proofs.HandingOn.{made, pass_act, pass_does, pass_left, pass_pushes, pass_stands}
 
 -- How a longer log ends
 

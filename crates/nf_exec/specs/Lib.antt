@@ -1,3 +1,4 @@
+pub mod Examples
 pub mod Handing
 pub mod Roles
 pub mod Rooms

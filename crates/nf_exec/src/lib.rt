@@ -11,6 +11,8 @@ mod role;
 mod room;
 mod slot;
 mod station;
+#[cfg(test)]
+mod tests;
 mod turn;
 
 pub use budget::budget_of;

@@ -221,6 +221,7 @@ impl<N: NetFunction> CoreRole<N> {
             (setting_of board.now.layout plan.now entries) token.old.role (core_hand token.new.log) token.old.log
             token.new.log (counted self.new) result }
         ensures role { IsCoreRole N.acts N.state board.now plan.now token.new self.new }
+        ensures same { (token.new.board ≡ token.old.board) × (token.new.role ≡ token.old.role) }
         ensures began { self.new.began ≡ self.old.began }
         ensures functions { functions_of self.new.stations.items ≡ functions_of self.old.stations.items }
 

@@ -98,6 +98,8 @@ impl CoreRoom {
             → IsNewRoom site plan core self → IsFresh site core token
             → IsCoreRole N.acts N.state site plan token result }
         ensures units { result.units.items ≡ units }
+        ensures began { result.began.value.items ≡ units }
+        ensures stations { result.stations ≡ self.stations }
     {
         let units = units.into_vec();
         let began = Snapshot::of(&units);

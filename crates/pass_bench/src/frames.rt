@@ -57,13 +57,18 @@ impl Entrance {
         Ok(self.lane.push(board, &mut self.token, buf).is_ok())
     }
 
-    /// A burst of frames enters.
-    pub fn enter_all(&mut self, alloc: Global, board: &Board) -> Result<bool, NoMemory>
+    /// So many frames enter. False where one of them can't.
+    pub fn enter_all(
+        &mut self,
+        alloc: Global,
+        board: &Board,
+        frames: u32,
+    ) -> Result<bool, NoMemory>
         requires enters { Enters board.now self.old.token self.old.part self.old.lane }
         ensures enters { IfOk result (λ entered. entered ≡ true
             → Enters board.now self.new.token self.new.part self.new.lane) }
     {
-        for number in 0..BURST {
+        for number in 0..frames {
             if !self.enter(alloc, board, number)? {
                 return Ok(false);
             }
@@ -72,22 +77,21 @@ impl Entrance {
     }
 }
 
-// A crumb in the slot of the buffer in hand, as its only one.
-fn set_crumb(board: &Board, token: &mut Token, buf: BufId, verdict: Verdict)
+// A crumb in the slot of the buffer in hand.
+fn add_crumb(board: &Board, token: &mut Token, buf: BufId, verdict: Verdict)
     requires board { token.old.board ≡ board.now.id }
     requires carries { Carries buf.0 token.old }
+    requires trail { length (parcel_in token.old).trail < MAX_HOPS }
     ensures carries { Carries buf.0 token.new }
-    ensures trail { length (parcel_in token.new).trail ≡ 1 }
+    ensures trail { length (parcel_in token.new).trail ≡ suc (length (parcel_in token.old).trail) }
     ensures same { token.new ≡ record token.old { hand = token.new.hand } }
 {
-    let mut trail = Trail::none();
-    trail.add(Crumb {
-        place: 0,
-        function: FnId(0),
-        verdict,
-    });
     match token.slot(board, buf) {
-        Some(parcel) => parcel.trail = trail,
+        Some(parcel) => parcel.trail.add(Crumb {
+            place: 0,
+            function: FnId(0),
+            verdict,
+        }),
         None => {}
     }
 }
@@ -101,16 +105,19 @@ pub struct Core {
 }
 
 impl Core {
-    // The function handles the next frame of the lane. False where there is none, or the output ring is
-    // full.
+    // The function handles the next frame of the lane, by the board's own steps. False where there is
+    // none, or the output ring is full.
     fn handle(&mut self, board: &Board, verdict: Verdict) -> bool
         requires handles { Handles board.now self.old.token self.old.lane self.old.output }
         ensures handles { result ≡ true → Handles board.now self.new.token self.new.lane self.new.output }
     {
+        if self.output.room(board, &mut self.token).is_err() {
+            return false;
+        }
         let Some(buf) = self.lane.pop(board, &mut self.token) else {
             return false;
         };
-        set_crumb(board, &mut self.token, buf, verdict);
+        add_crumb(board, &mut self.token, buf, verdict);
         self.output.push(board, &mut self.token, buf).is_ok()
     }
 

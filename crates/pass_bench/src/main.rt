@@ -1,7 +1,8 @@
-//! The program `pass_bench`: measures what passes of roles cost for each frame, beside the board's own
-//! steps, and what passes of the tick role cost.
+//! The program `pass_bench`: measures what passes of transmit roles and cores cost for each frame,
+//! beside the board's own steps, and what passes of the tick role cost.
 #![tactic(auto)]
 
+mod cores;
 mod cost;
 mod frames;
 mod passes;
@@ -10,6 +11,7 @@ mod roles;
 mod steps;
 mod ticks;
 
+use cores::measure_cores;
 use onvm_base::NoMemory;
 use onvm_board::Board;
 use onvm_core::Layout;
@@ -44,6 +46,9 @@ fn rounds(rt: &HostRuntime) -> Option<u32> {
 
 fn measure_all(rt: &HostRuntime, rounds: u32) -> Result<(), NoMemory> {
     measure(rt, rounds)?;
+    for functions in [1, 4, 16] {
+        measure_cores(rt, functions, rounds)?;
+    }
     for functions in [2, 8, 32] {
         measure_ticks(rt, functions, rounds)?;
     }
@@ -59,11 +64,14 @@ fn measure(rt: &HostRuntime, rounds: u32) -> Result<(), NoMemory> {
     let passes = cost_of_passes(rt.alloc(), &plan, &board, &mut lead, &clock, rounds)?;
     let (board, mut lead) = Board::make(rt.alloc(), &layout)?;
     let steps = cost_of_steps(rt.alloc(), &plan, &board, &mut lead, &clock, rounds)?;
-    steps.moved.print(rt, "pop, cursor and push alone");
+    steps
+        .handled
+        .print(rt, "look, pop, crumb and push alone");
+    steps.onward.moved.print(rt, "pop, cursor and push alone");
     passes
         .moved
         .print(rt, "a frame that a transmit pass moves to a lane");
-    steps.sent.print(rt, "pop and give alone");
+    steps.onward.sent.print(rt, "pop and give alone");
     passes.sent.print(rt, "a frame that a transmit pass sends");
     Ok(())
 }

@@ -1,11 +1,11 @@
 //! Frames that go by transmit passes.
-ghost use Rattle.std.specs.Prelude.{◌≡◌, ◌<◌, ◌≤◌, IfOk, true};
+ghost use Rattle.std.specs.Prelude.{◌≡◌, IfOk, true};
 ghost use Rattle.onvm_core.specs.Layouts.{IsLayout, IsLayoutOf};
 ghost use Rattle.onvm_board.specs.Tokens.{first_token};
-ghost use Rattle.tx_pass.specs.Examples.{Enters, Handles, IsFresh, IsTestLayout, IsTestPlan};
-ghost use Rattle.tx_pass.specs.Roles.{IsTxRole};
+ghost use Rattle.tx_pass.specs.Examples.{Enters, Handles, IsFresh, IsTestPlan};
+ghost use Rattle.tx_pass.specs.Roles.{IsTransmit, IsTxRole};
 
-use crate::cost::{Cost, Costs};
+use crate::cost::{BURST, Cost, Costs};
 use crate::frames::{Core, Entrance};
 use crate::roles::Line;
 use nf_registry::Registry;
@@ -15,24 +15,24 @@ use onvm_host::Clock;
 use std::alloc::Global;
 use tx_pass::{Pass, TxRole, TxRoom};
 
-// A transmit role with its token.
+/// A transmit role with its token.
 #[derive(Drop)]
-struct Sender {
-    token: Token,
-    role: TxRole,
+pub struct Sender {
+    pub token: Token,
+    pub role: TxRole,
 }
 
 impl Sender {
-    fn start(
+    /// The transmit role of this number among all roles.
+    pub fn start(
         alloc: Global,
         board: &Board,
         plan: &Plan,
         token: Token,
         number: u8,
     ) -> Result<Sender, NoMemory>
-        requires layout { IsTestLayout board.now.layout }
         requires plan { IsLayoutOf plan.now board.now.layout }
-        requires number { (1 ≤ number) × (number < 3) }
+        requires number { IsTransmit board.now.layout number }
         requires fresh { IsFresh board.now number token }
         ensures sends { IfOk result (λ sender. IsTxRole board.now plan.now sender.token sender.role) }
     {
@@ -40,8 +40,8 @@ impl Sender {
         Ok(Sender { token, role })
     }
 
-    // So many frames are moved by one pass.
-    fn pass(&mut self, board: &Board, plan: &Plan, registry: &Registry, now: u64) -> u64
+    /// So many frames are moved by one pass.
+    pub fn pass(&mut self, board: &Board, plan: &Plan, registry: &Registry, now: u64) -> u64
         requires sends { IsTxRole board.now plan.now self.old.token self.old.role }
         requires registry { registry.now ≡ plan.now }
         ensures sends { IsTxRole board.now plan.now self.new.token self.new.role }
@@ -69,7 +69,7 @@ impl Sender {
         let first = self.pass(board, plan, registry, start);
         let second = self.pass(board, plan, registry, start);
         let time = clock.now().saturating_sub(start);
-        cost.add(time, first.wrapping_add(second));
+        cost.add(BURST, time, first.wrapping_add(second));
     }
 }
 
@@ -125,7 +125,7 @@ pub fn bring(
     ensures handles { IfOk result (λ brought. brought ≡ true
         → Handles board.now core.new.token core.new.lane core.new.output) }
 {
-    if !entrance.enter_all(alloc, board)? {
+    if !entrance.enter_all(alloc, board, BURST)? {
         return Ok(false);
     }
     Ok(core.handle_all(board, Verdict::Next))

@@ -11,8 +11,8 @@ use onvm_base::{FnId, Plan, PortId, RingId};
 use onvm_board::{Board, Token};
 use onvm_core::Layout;
 
-// Splits the first role that isn't split yet.
-fn split(board: &Board, first: &mut Token, role: u32) -> Token
+/// Splits the first role that isn't split yet.
+pub fn split(board: &Board, first: &mut Token, role: u32) -> Token
     requires open { IsOpen board.now role first.old }
     requires known { role < first_role board.now.layout }
     ensures open { IsOpen board.now (role + 1) first.new }
@@ -22,9 +22,9 @@ fn split(board: &Board, first: &mut Token, role: u32) -> Token
 }
 
 impl Entrance {
-    // The receive role of port 0.
-    fn start(board: &Board, plan: &Plan, token: Token) -> Entrance
-        requires layout { IsTestLayout board.now.layout }
+    /// The receive role of port 0.
+    pub fn start(board: &Board, plan: &Plan, token: Token) -> Entrance
+        requires ranges { IsLayout board.now.layout }
         requires plan { IsLayoutOf plan.now board.now.layout }
         requires fresh { IsFresh board.now 0 token }
         ensures enters { Enters board.now result.token result.part result.lane }

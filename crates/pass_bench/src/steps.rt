@@ -7,7 +7,6 @@ ghost use Rattle.tx_pass.specs.Examples.{IsFresh, IsTestLayout, IsTestPlan};
 ghost use Rattle.pass_bench.specs.Steps.{Moves, Sends};
 
 use crate::cost::{BURST, Cost, Costs};
-use crate::passes::bring;
 use crate::roles::Line;
 use desc_ring::{Head, Tail};
 use mbuf_pool::send;
@@ -135,7 +134,17 @@ impl Sender {
     }
 }
 
-/// What the steps alone cost of frames that go on to a lane, and of ones that are sent, over bursts.
+/// What the steps alone cost, over bursts.
+#[derive(Clone, Copy, Debug)]
+pub struct StepCosts {
+    /// Of a frame that a function handles.
+    pub handled: Cost,
+    /// Of one that goes on to a lane, and of one that is sent.
+    pub onward: Costs,
+}
+
+/// What the steps alone cost of frames that a function handles, of ones that go on to a lane, and of
+/// ones that are sent.
 pub fn cost_of_steps<C: Clock>(
     alloc: Global,
     plan: &Plan,
@@ -143,7 +152,7 @@ pub fn cost_of_steps<C: Clock>(
     lead: &mut Token,
     clock: &C,
     rounds: u32,
-) -> Result<Costs, NoMemory>
+) -> Result<StepCosts, NoMemory>
     requires plan { IsTestPlan plan.now }
     requires layout { IsLayoutOf plan.now board.now.layout }
     requires ranges { IsLayout board.now.layout }
@@ -158,16 +167,22 @@ pub fn cost_of_steps<C: Clock>(
     } = Line::start(plan, board, lead);
     let mut mover = Mover::start(board, plan, mover);
     let mut sender = Sender::start(alloc, board, plan, sender);
-    let mut costs = Costs::new();
+    let mut handled = Cost::new();
+    let mut onward = Costs::new();
     for _ in 0..rounds {
-        if !bring(alloc, board, &mut entrance, &mut first)? {
+        if !entrance.enter_all(alloc, board, BURST)? {
             break;
         }
+        let start = clock.now();
+        if !first.handle_all(board, Verdict::Next) {
+            break;
+        }
+        add(&mut handled, clock, start);
         let start = clock.now();
         if !mover.move_all(board) {
             break;
         }
-        add(&mut costs.moved, clock, start);
+        add(&mut onward.moved, clock, start);
         if !second.handle_all(board, Verdict::Out(0)) {
             break;
         }
@@ -175,13 +190,13 @@ pub fn cost_of_steps<C: Clock>(
         if !sender.send_all(board) {
             break;
         }
-        add(&mut costs.sent, clock, start);
+        add(&mut onward.sent, clock, start);
     }
-    Ok(costs)
+    Ok(StepCosts { handled, onward })
 }
 
 // One more burst, since this moment.
 fn add<C: Clock>(cost: &mut Cost, clock: &C, start: u64) {
     let time = clock.now().saturating_sub(start);
-    cost.add(time, u64::from(BURST));
+    cost.add(BURST, time, u64::from(BURST));
 }

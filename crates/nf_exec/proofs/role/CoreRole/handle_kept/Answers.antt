@@ -8,9 +8,10 @@ use Rattle.nf_exec.specs.Roles.{IsKept, counts_upto}
 use Rattle.nf_exec.specs.Serving.{IsTimedBy}
 use Rattle.nf_exec.specs.Stations.{functions_of}
 use Rattle.nf_exec.proofs.Keeping.{counts_one, held_some, kept_at, kept_carried, no_times, on_any_err, passing_first, passing_none, rested, work_passed, work_unmoved}
-use Rattle.nf_exec.proofs.Mailing.{set_same}
+use Rattle.nf_exec.proofs.SampleActs.{set_same}
 use Rattle.nf_exec.proofs.Passing.{same_at}
-use Rattle.nf_exec.proofs.Working.{keeps_set, kept_free, more_counts, times_set}
+use Rattle.nf_exec.proofs.Working.{kept_free}
+use Rattle.nf_exec.proofs.StationLists.{keeps_set, more_counts, times_set}
 use Rattle.nf_exec.proofs.role.CoreRole.handle_kept.Goals as goal
 
 -- Nothing is kept

@@ -2,7 +2,7 @@ use Rattle.std.proofs.Common.{◌<◌, ◌∙◌, refl, subst, arith, List, leng
 use Rattle.nf_exec.specs.declared.station.Station.{Station}
 use Rattle.nf_exec.specs.Roles.{HasMailed}
 use Rattle.nf_exec.proofs.Mailing.{done_next, mailed_next, mailed_none, rest_next}
-use Rattle.nf_exec.proofs.Working.{as_long, item_there}
+use Rattle.nf_exec.proofs.StationLists.{as_long, item_there}
 use Rattle.nf_exec.proofs.role.CoreRole.mail_all.Goals as goal
 
 pub loop-at-init : goal.loop-at-init

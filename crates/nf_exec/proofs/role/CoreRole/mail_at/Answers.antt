@@ -1,8 +1,9 @@
 use Rattle.std.proofs.Common.{◌≡◌, ℕ, ◌+◌, ◌-◌, ◌^◌, refl, ap, ◌∙◌, sym}
 use Rattle.std.specs.Prelude.{min}
 use Rattle.onvm_core.specs.Places.{one_if}
-use Rattle.nf_exec.proofs.Mailing.{work_mailed}
-use Rattle.nf_exec.proofs.Working.{keeps_set, no_more}
+use Rattle.nf_exec.proofs.SampleActs.{work_mailed}
+use Rattle.nf_exec.proofs.Working.{no_more}
+use Rattle.nf_exec.proofs.StationLists.{keeps_set}
 use Rattle.nf_exec.proofs.role.CoreRole.mail_at.Goals as goal
 
 pub returns-then-mail_sample-clause-others : goal.returns-then-mail_sample-clause-others

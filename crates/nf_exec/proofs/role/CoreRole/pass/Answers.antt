@@ -1,11 +1,13 @@
 use Rattle.std.proofs.Common.{ℕ, ◌+◌, ◌∙◌, not, sym, ap, subst, arith, List, is_some}
 use Rattle.onvm_base.specs.declared.ids.FnId.{FnId}
 use Rattle.nf_exec.specs.Roles.{IsPassing}
-use Rattle.nf_exec.proofs.Promising.{promise, role_kept, wanting_promise, wanting_role}
+use Rattle.nf_exec.proofs.Promising.{promise, role_kept}
+use Rattle.nf_exec.proofs.Unbegun.{wanting_promise, wanting_role}
 use Rattle.onvm_core.specs.Handling.{core_hand}
 use Rattle.onvm_board.specs.Tokens.{TokenView}
 use Rattle.onvm_promises.specs.Answers.{is_complete}
-use Rattle.nf_exec.proofs.Working.{as_long, kept_some, was_not}
+use Rattle.nf_exec.proofs.Working.{kept_some, was_not}
+use Rattle.nf_exec.proofs.StationLists.{as_long}
 use Rattle.nf_exec.proofs.role.CoreRole.pass.Goals as goal
 
 pub returns-in_default-clause-promise : goal.returns-in_default-clause-promise
@@ -80,3 +82,22 @@ returns-clause-wanting g c e =
 pub returns-clause-functions : goal.returns-clause-functions
 returns-clause-functions g c =
     c.mail_all.ensures.functions ∙ c.serve_all.ensures.functions ∙ c.handle_kept.ensures.functions
+
+pub returns-in_default-clause-same : goal.returns-in_default-clause-same
+returns-in_default-clause-same g c =
+    let same = c.in_default.ensures.unchanged in (
+      ap (λ (token : TokenView). token.board) same,
+      ap (λ (token : TokenView). token.role) same,
+    )
+
+pub returns-clause-same : goal.returns-clause-same
+returns-clause-same g c =
+    let mailed = c.mail_all.ensures.mailed.grew in
+    let passed =
+    (c.serve_all.ensures.passing c.args.token.now c.in-Ok.first
+    (subst (λ (fs : List FnId). IsPassing c.args.board.now c.args.plan.now fs 0 c.in-Ok.first c.args.token.now
+    c.handle_kept.new.token)
+    (sym c.handle_kept.ensures.functions) c.in-Ok.ensures.passing)).grew in (
+      ap (λ (token : TokenView). token.board) mailed ∙ ap (λ (token : TokenView). token.board) passed,
+      ap (λ (token : TokenView). token.role) mailed ∙ ap (λ (token : TokenView). token.role) passed,
+    )

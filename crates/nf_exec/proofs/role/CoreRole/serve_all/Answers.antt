@@ -5,7 +5,8 @@ use Rattle.nf_exec.specs.declared.station.Station.{Station}
 use Rattle.nf_exec.specs.Roles.{IsPassing}
 use Rattle.nf_exec.specs.Stations.{AreFunctionsOf, functions_of}
 use Rattle.nf_exec.proofs.Passing.{passing_kept, passing_served}
-use Rattle.nf_exec.proofs.Working.{ahead_next, as_long, counts_next, function_at, functions_long, item_there, kept_free, kept_some, more_counts}
+use Rattle.nf_exec.proofs.Working.{kept_free, kept_some}
+use Rattle.nf_exec.proofs.StationLists.{ahead_next, as_long, counts_next, function_at, functions_long, item_there, more_counts}
 use Rattle.nf_exec.proofs.role.CoreRole.serve_all.Goals as goal
 
 pub overflow_add-handled : goal.overflow_add-handled

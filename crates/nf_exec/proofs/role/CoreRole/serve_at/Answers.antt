@@ -8,7 +8,8 @@ use Rattle.nf_exec.specs.declared.turn.Turn.{Turn}
 use Rattle.nf_exec.specs.Roles.{IsKept}
 use Rattle.nf_exec.specs.Roles.IsKept.{OneKept}
 use Rattle.nf_exec.specs.Serving.{IsTimedBy, is_barred, kept_by}
-use Rattle.nf_exec.proofs.Working.{kept_quiet, kept_still, keeps_set, no_more, set_there, times_set, work_served}
+use Rattle.nf_exec.proofs.Working.{kept_quiet, kept_still, no_more, set_there, work_served}
+use Rattle.nf_exec.proofs.StationLists.{keeps_set, times_set}
 use Rattle.nf_exec.proofs.role.CoreRole.serve_at.Goals as goal
 
 pub returns-in-Barred-clause-times : goal.returns-in-Barred-clause-times

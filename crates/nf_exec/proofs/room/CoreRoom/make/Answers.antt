@@ -2,7 +2,8 @@ use Rattle.std.proofs.Common.{◌<◌, ◌∙◌, ap, subst, arith, List, length
 use Rattle.std.specs.Prelude.{slice_index_or}
 use Rattle.std.proofs.lemmas.Option.{slice_get_within}
 use Rattle.onvm_base.specs.declared.ids.FnId.{FnId}
-use Rattle.nf_exec.proofs.Rooming.{at_any, resident_at, stations_next}
+use Rattle.nf_exec.proofs.NewStations.{at_any, stations_next}
+use Rattle.nf_exec.proofs.Residents.{resident_at}
 use Rattle.nf_exec.proofs.room.CoreRoom.make.Goals as goal
 
 pub make-requires-clause-function : goal.make-requires-clause-function

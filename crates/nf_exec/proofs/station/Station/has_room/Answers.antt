@@ -1,5 +1,5 @@
 use Rattle.nf_exec.proofs.Stationing.{station_looked}
-use Rattle.nf_exec.proofs.Turning.{glanced}
+use Rattle.nf_exec.proofs.Glancing.{glanced}
 use Rattle.nf_exec.proofs.station.Station.has_room.Goals as goal
 
 pub returns-clause-glanced : goal.returns-clause-glanced

@@ -7,7 +7,9 @@ use Rattle.nf_exec.specs.declared.turn.Turn.TheVariants.{Wanting}
 use Rattle.nf_exec.specs.Serving.{HasPassedOn, IsServing}
 use Rattle.nf_exec.specs.Stations.{IsToHandle}
 use Rattle.nf_exec.proofs.Servings.{serving_passed, stood, stood_still, went_on_then}
-use Rattle.nf_exec.proofs.Turning.{dry_journal, found_journal, found_stands, pass_journal, roomy_grew, turn_barred, turn_dry, turn_wanting}
+use Rattle.nf_exec.proofs.Glancing.{roomy_grew, turn_barred}
+use Rattle.nf_exec.proofs.HandingOn.{pass_journal}
+use Rattle.nf_exec.proofs.Turning.{dry_journal, found_journal, found_stands, turn_dry, turn_wanting}
 use Rattle.nf_exec.proofs.station.Station.turn.Goals as goal
 
 pub returns-then-not-has_room-clause-turned : goal.returns-then-not-has_room-clause-turned
