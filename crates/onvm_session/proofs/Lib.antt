@@ -1,4 +1,5 @@
 pub mod Accounted
+pub mod Answered
 pub mod Ascending
 pub mod Beginnings
 pub mod Boarding
@@ -40,6 +41,7 @@ pub mod SessionLists
 pub mod Starting
 pub mod Stepping
 pub mod Summing
+pub mod Tending
 pub mod TickTurns
 pub mod Turning
 pub mod Weaving
