@@ -33,6 +33,7 @@ pub mod Places
 pub mod Quiet
 pub mod Reading
 pub mod RoleLists
+pub mod RolePasses
 pub mod Rounds
 pub mod Seating
 pub mod Serial
