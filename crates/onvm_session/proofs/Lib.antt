@@ -17,6 +17,11 @@ pub mod KeptByTurns
 pub mod LastRound
 pub mod Leading
 pub mod Listing
+pub mod ManagerGoing
+pub mod ManagerRounds
+pub mod ManagerRuns
+pub mod ManagerTokens
+pub mod ManagerTurns
 pub mod OverloadAccount
 pub mod OverloadCore
 pub mod OverloadPlan
