@@ -4,6 +4,7 @@ pub mod Beginnings
 pub mod Boarding
 pub mod Closing
 pub mod Done
+pub mod Draining
 pub mod ExampleAccount
 pub mod ExampleSteps
 pub mod ExampleTurns
@@ -16,6 +17,7 @@ pub mod KeptByTurns
 pub mod LastRound
 pub mod Leading
 pub mod Listing
+pub mod NewRoles
 pub mod OverloadAccount
 pub mod OverloadCore
 pub mod OverloadPlan
@@ -42,5 +44,6 @@ pub mod Stepping
 pub mod Summing
 pub mod TickTurns
 pub mod Turning
+pub mod UnitLists
 pub mod Weaving
 pub mod WrongRuns
