@@ -5,6 +5,7 @@ pub mod Beginnings
 pub mod Boarding
 pub mod Closing
 pub mod Done
+pub mod Draining
 pub mod ExampleAccount
 pub mod ExampleSteps
 pub mod ExampleTurns
@@ -22,6 +23,7 @@ pub mod ManagerRounds
 pub mod ManagerRuns
 pub mod ManagerTokens
 pub mod ManagerTurns
+pub mod NewRoles
 pub mod OverloadAccount
 pub mod OverloadCore
 pub mod OverloadPlan
@@ -50,5 +52,6 @@ pub mod Summing
 pub mod Tending
 pub mod TickTurns
 pub mod Turning
+pub mod UnitLists
 pub mod Weaving
 pub mod WrongRuns
