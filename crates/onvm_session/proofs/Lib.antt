@@ -14,6 +14,7 @@ pub mod IdleRound
 pub mod IdleRun
 pub mod KeptByTurns
 pub mod LastRound
+pub mod LastTurn
 pub mod Leading
 pub mod Listing
 pub mod OverloadAccount
