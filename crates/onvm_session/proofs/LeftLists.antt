@@ -93,42 +93,43 @@ core_none_at : {I N : Type 0} (layout : Layout) (roles : List (Role I N)) (r : �
     → Handles ≢ kind_of layout r → (keeps_in roles r).core ≡ no_keeps.core
 core_none_at {I} {N} layout roles r kinds other =
     elim (cases_Bool (nat_lt r (length roles))) [
-      | inl yes ↦
-          let got = got_some roles r (ltb-true r (length roles) yes) in
+      | inl met ↦
+          let got = got_some roles r (ltb-true r (length roles) met) in
           ap (λ (role : Option (Role I N)). (keeps_at role).core) got.1
           ∙ core_none layout r got.0 (kinds r got.0 got.1) other
-      | inr no ↦
+      | inr unmet ↦
           ap (λ (role : Option (Role I N)). (keeps_at role).core)
-          (got_none roles r (ltb-false r (length roles) no))
+          (got_none roles r (ltb-false r (length roles) unmet))
     ]
 
 -- Lists
 
+kept_shift : {A : Type 0} (part : FeederKeeps → List A) (keeps : ℕ → Keeps) (n : ℕ)
+    → feeders_kept part keeps (suc n) ≡ part (keeps 0).feeder ++ feeders_kept part (λ r. keeps (suc r)) n
+kept_shift part keeps zero = sym (append-nil (part (keeps 0).feeder))
+kept_shift {A} part keeps (suc n) =
+    ap (λ (xs : List A). xs ++ part (keeps (suc n)).feeder) (kept_shift part keeps n)
+    ∙ append_assoc (part (keeps 0).feeder) (feeders_kept part (λ r. keeps (suc r)) n) (part (keeps (suc n)).feeder)
+
+kept_empty : {A : Type 0} (part : FeederKeeps → List A) → part no_keeps.feeder ≡ [] → (n : ℕ)
+    → feeders_kept part (λ r. no_keeps) n ≡ []
+kept_empty part none zero = refl
+kept_empty {A} part none (suc n) =
+    ap (λ (xs : List A). xs ++ part no_keeps.feeder) (kept_empty part none n) ∙ none
+
 module _ {A I N : Type 0} (part : FeederKeeps → List A) where
-  kept_shift : (keeps : ℕ → Keeps) (n : ℕ)
-      → feeders_kept part keeps (suc n) ≡ part (keeps 0).feeder ++ feeders_kept part (λ r. keeps (suc r)) n
-  kept_shift keeps zero = sym (append-nil (part (keeps 0).feeder))
-  kept_shift keeps (suc n) =
-      ap (λ (xs : List A). xs ++ part (keeps (suc n)).feeder) (kept_shift keeps n)
-      ∙ append_assoc (part (keeps 0).feeder) (feeders_kept part (λ r. keeps (suc r)) n) (part (keeps (suc n)).feeder)
-
-  kept_empty : part no_keeps.feeder ≡ [] → (n : ℕ) → feeders_kept part (keeps_in {I} {N} []) n ≡ []
-  kept_empty none zero = refl
-  kept_empty none (suc n) =
-      ap (λ (xs : List A). xs ++ part no_keeps.feeder) (kept_empty none n) ∙ none
-
   -- where the roles from n on keep nothing
   kept_all : (roles : List (Role I N)) (n : ℕ) → part no_keeps.feeder ≡ []
       → ((r : ℕ) (role : Role I N) → n ≤ r → slice_get roles r ≡ Some role → part (keeps_of role).feeder ≡ [])
       → kept_of (λ keeps. part keeps.feeder) roles ≡ feeders_kept part (keeps_in roles) n
-  kept_all [] n none past = sym (kept_empty none n)
+  kept_all [] n none past = sym (kept_empty part none n)
   kept_all (role ∷ roles) zero none past =
       ap (λ (xs : List A). xs ++ kept_of (λ keeps. part keeps.feeder) roles) (past 0 role (omega arith) refl)
       ∙ kept_all roles zero none (λ r other from at. past (suc r) other (omega arith) at)
   kept_all (role ∷ roles) (suc n) none past =
       ap (λ (xs : List A). part (keeps_of role).feeder ++ xs)
       (kept_all roles n none (λ r other from at. past (suc r) other (omega (arith, from)) at))
-      ∙ sym (kept_shift (keeps_in (role ∷ roles)) n)
+      ∙ sym (kept_shift part (keeps_in (role ∷ roles)) n)
 
   pub feeders_left : (layout : Layout) (roles : List (Role I N)) → AreOfKinds layout roles → part no_keeps.feeder ≡ []
       → kept_of (λ keeps. part keeps.feeder) roles
@@ -142,7 +143,7 @@ left_complete : {I N : Type 0} (roles : List (Role I N)) (old new : Leavings I) 
     → new.complete ≡ true → old.complete ≡ true
 left_complete {I} [] old new left complete = ap (λ (l : Leavings I). l.complete) (sym left) ∙ complete
 left_complete (role ∷ roles) old new left complete =
-    left.1.0.complete (left_complete roles left.0 new left.1.1 complete)
+    left.1.complete (left_complete roles left.0 new left.2 complete)
 
 module _ {A I N : Type 0} (part : Keeps → List A) (list : Leavings I → List A)
     (adds : (role : Role I N) (old new : Leavings I) → HasLeft role old new → new.complete ≡ true
@@ -153,14 +154,14 @@ module _ {A I N : Type 0} (part : Keeps → List A) (list : Leavings I → List 
         → list new ≡ list old ++ kept_of part roles
     lists_left [] old new left complete = ap list left ∙ sym (append-nil (list old))
     lists_left (role ∷ roles) old new left complete =
-        lists_left roles left.0 new left.1.1 complete
+        lists_left roles left.0 new left.2 complete
         ∙ ap (λ (xs : List A). xs ++ kept_of part roles)
-        (adds role old left.0 left.1.0 (left_complete roles left.0 new left.1.1 complete))
+        (adds role old left.0 left.1 (left_complete roles left.0 new left.2 complete))
         ∙ append_assoc (list old) (part (keeps_of role)) (kept_of part roles)
 
 -- Counts
 
-counts_of : {I N : Type 0} → (CoreKeeps → ℕ) → List (Role I N) → ℕ
+abbrev counts_of : {I N : Type 0} → (CoreKeeps → ℕ) → List (Role I N) → ℕ
 counts_of part [] = 0
 counts_of part (role ∷ roles) = part (keeps_of role).core + counts_of part roles
 
@@ -205,19 +206,19 @@ module _ {I N : Type 0} (part : CoreKeeps → ℕ) where
           → count new ≡ min (2 ^ 64 - 1) (count old + counts_of part roles)
       cuts_left [] old new few left = ap count left ∙ cut_none (2 ^ 64 - 1) (count old) few
       cuts_left (role ∷ roles) old new few left =
-          let one = adds role old left.0 left.1.0 in
+          let one = adds role old left.0 left.1 in
           cut_again (2 ^ 64 - 1) (count old) (part (keeps_of role).core) (counts_of part roles) (count left.0)
           (count new) one
           (cuts_left roles left.0 new
-          (cut_few (2 ^ 64 - 1) (count left.0) (count old + part (keeps_of role).core) one) left.1.1)
+          (cut_few (2 ^ 64 - 1) (count left.0) (count old + part (keeps_of role).core) one) left.2)
 
       pub counts_left : (layout : Layout) (roles : List (Role I N)) (old new : Leavings I) → AreOfKinds layout roles
           → length roles ≡ first_role layout → part no_keeps.core ≡ 0 → count old ≡ 0 → HaveLeft roles old new
           → count new ≡ min (2 ^ 64 - 1) (cores_counted part layout (keeps_in roles) layout.cores)
       counts_left layout roles old new kinds many none first left =
-          cuts_left roles old new (omega (arith, first)) left
-          ∙ ap (min (2 ^ 64 - 1))
-          (ap (λ (n : ℕ). n + counts_of part roles) first ∙ cores_left layout roles kinds many none)
+          let all : count old + counts_of part roles ≡ cores_counted part layout (keeps_in roles) layout.cores =
+          omega (arith, first, cores_left layout roles kinds many none) in
+          cuts_left roles old new (omega (arith, first)) left ∙ ap (min (2 ^ 64 - 1)) all
 
 -- Samples and ticks
 
@@ -228,11 +229,11 @@ pub ticks_left : {I N : Type 0} (roles : List (Role I N)) (at : ℕ) (tick : Tic
 ticks_left [] at tick old new found many left = absurd (omega (arith, many))
 ticks_left {I} {N} (role ∷ []) zero tick old new found many left =
     let is : role ≡ Tick tick = some_inj role (Tick tick) found in (
-      ap (λ (l : Leavings I). l.samples) left.1.1 ∙ left.1.0.samples
+      ap (λ (l : Leavings I). l.samples) left.2 ∙ left.1.samples
           ∙ ap (λ (r : Role I N). samples_after r old.samples) is,
-      ap (λ (l : Leavings I). l.ticks) left.1.1 ∙ left.1.0.ticks
+      ap (λ (l : Leavings I). l.ticks) left.2 ∙ left.1.ticks
           ∙ ap (λ (r : Role I N). ticks_after r old.ticks) is,
     )
 ticks_left (role ∷ other ∷ roles) zero tick old new found many left = absurd (omega (arith, many))
 ticks_left (role ∷ roles) (suc at) tick old new found many left =
-    ticks_left roles at tick left.0 new found (omega (arith, many)) left.1.1
+    ticks_left roles at tick left.0 new found (omega (arith, many)) left.2

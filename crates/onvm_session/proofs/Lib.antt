@@ -7,6 +7,7 @@ pub mod Done
 pub mod ExampleAccount
 pub mod ExampleSteps
 pub mod ExampleTurns
+pub mod Finishing
 pub mod Growing
 pub mod HandingBack
 pub mod IdleAccount
@@ -16,6 +17,7 @@ pub mod KeptByTurns
 pub mod LastRound
 pub mod LastTurn
 pub mod Leading
+pub mod LeftLists
 pub mod Listing
 pub mod OverloadAccount
 pub mod OverloadCore
@@ -30,6 +32,7 @@ pub mod Passing
 pub mod Peeling
 pub mod Phasing
 pub mod Places
+pub mod PutTogether
 pub mod Quiet
 pub mod Reading
 pub mod RoleLists

@@ -79,7 +79,8 @@ impl<I: Drop> Leavings<I> {
         }
     }
 
-    fn add_feeder(&mut self, records: Records, sent: SentFrames, posts: Posts) {
+    fn add_feeder(&mut self, records: Records, sent: SentFrames, posts: Posts)
+    {
         if self.gathered.add_feeder(records, sent, posts).is_err() {
             self.complete = false;
         }

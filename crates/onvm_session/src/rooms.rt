@@ -239,9 +239,7 @@ impl<I: Source + Drop, N: NetFunction> Rooms<I, N> {
         hand_out(&mut lists, plan, units);
         let mut lists = lists.into_iter();
         for room in cores {
-            let Some(units) = lists.next() else {
-                unreachable!()
-            };
+            let Some(units) = lists.next() else { unreachable!() };
             roles.push_reserved(Role::Handle(room.start(ListOf::from_vec(units))));
         }
         roles.push_reserved(Role::Tick(ticker.start(0)));
