@@ -9,6 +9,7 @@ pub mod Draining
 pub mod ExampleAccount
 pub mod ExampleSteps
 pub mod ExampleTurns
+pub mod Finishing
 pub mod Growing
 pub mod HandingBack
 pub mod IdleAccount
@@ -16,7 +17,9 @@ pub mod IdleRound
 pub mod IdleRun
 pub mod KeptByTurns
 pub mod LastRound
+pub mod LastTurn
 pub mod Leading
+pub mod LeftLists
 pub mod Listing
 pub mod ManagerGoing
 pub mod ManagerRounds
@@ -37,6 +40,7 @@ pub mod Passing
 pub mod Peeling
 pub mod Phasing
 pub mod Places
+pub mod PutTogether
 pub mod Quiet
 pub mod Reading
 pub mod RoleLists
