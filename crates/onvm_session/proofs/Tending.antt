@@ -7,7 +7,7 @@ use Rattle.onvm_core.specs.declared.layout.Layout.{Layout}
 use Rattle.onvm_core.proofs.RoleKinds.{kind_port, kind_sends, kind_tick}
 use Rattle.onvm_core.specs.Blocks.{RoleKind, kind_of}
 use Rattle.onvm_core.specs.Blocks.RoleKind.{Receives, Sends, Handles, Ticks}
-use Rattle.onvm_core.specs.Layouts.{IsLayoutOf, first_role}
+use Rattle.onvm_core.specs.Layouts.{IsLayout, IsLayoutOf, first_role}
 use Rattle.onvm_core.specs.Logs.{Setting}
 use Rattle.onvm_board.specs.Tokens.{split_token}
 use Rattle.onvm_host.specs.Deeds.{Amounts}
@@ -68,6 +68,7 @@ module _ {I N : Type 0} (name_of : I → List ℕ) (left_of : I → Option (List
   -- feeds back
   pub record IsTended (manager : Manager I N) : Type 0 where
     pub layout_of : IsLayoutOf plan manager.board.layout
+    pub ranges : IsLayout manager.board.layout
     pub many : length manager.roles.items ≡ first_role manager.board.layout
     pub kinds : OfEach (λ r role. kind_in role ≡ kind_of manager.board.layout r) manager.roles.items
     pub fed : AreFed name_of left_of takes_of given manager.roles.items
@@ -78,6 +79,7 @@ module _ {I N : Type 0} (name_of : I → List ℕ) (left_of : I → Option (List
       → IsNewManager name_of left_of takes_of acts state plan units given manager → IsTended manager
   tended_first acts state units manager new = record {
     layout_of = new.layout_of;
+    ranges = new.ranges;
     many = new.roles.many;
     kinds = λ r role found.
         ready_of_kind acts state is_cost manager.board plan (split_token r manager.first) role
@@ -91,6 +93,7 @@ module _ {I N : Type 0} (name_of : I → List ℕ) (left_of : I → Option (List
   pub tended_then : (old new : Manager I N) → AllGrow name_of left_of takes_of old new → IsTended old → IsTended new
   tended_then old new grow tended = record {
     layout_of = subst (λ board. IsLayoutOf plan board.layout) (sym grow.board) tended.layout_of;
+    ranges = subst (λ board. IsLayout board.layout) (sym grow.board) tended.ranges;
     many = grow.many ∙ tended.many ∙ ap (λ board. first_role board.layout) (sym grow.board);
     kinds = λ r role found.
         let below = got_below new.roles.items r role found in

@@ -94,8 +94,9 @@ impl<I: Source + Drop, N: NetFunction> Manager<I, N> {
 
     /// Reads the captures of the ports to their ends, in order, up to the first port that has a fault.
     pub fn find_fault(&mut self, alloc: Global) -> Stop
-        requires { (r : ℕ) × (role : RoleView I N) × (slice_get self.old.roles.items r ≡ Some role)
+        requires fault { (r : ℕ) × (role : RoleView I N) × (slice_get self.old.roles.items r ≡ Some role)
             × IsSome (fault_of role) }
+        requires few { length self.old.roles.items ≤ 255 }
         ensures told { (port : ℕ) (fault : FaultView) → told_fault result ≡ Some (port, fault)
             → HasFault self.new.roles.items port fault }
         ensures grow { AllGrow I.name I.left I.takes self.old self.new }
