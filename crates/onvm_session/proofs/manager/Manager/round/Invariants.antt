@@ -1,6 +1,5 @@
-use Rattle.std.proofs.Common.{◌≡◌, ◌+◌, ◌<◌}
-use Rattle.onvm_core.specs.Layouts.{first_role}
-use Rattle.onvm_session.specs.Managers.{AllGrow, GoesOn, IsManager, OfEach, place_now, round_now}
+use Rattle.std.proofs.Common.{true}
+use Rattle.onvm_session.specs.Managers.{AllGrow, GoesOn, IsManager, OfEach}
 use Rattle.onvm_session.specs.RoleStates.{IsUpTo}
 use Rattle.onvm_session.specs.Runs.{any_moment}
 use Rattle.onvm_session.proofs.ManagerRounds.{IsInRound}
