@@ -1,7 +1,6 @@
 -- What stands at the end of a session is what the headline asks for.
-use Rattle.std.proofs.Common.{◌≡◌, ◌≢◌, ℕ, zero, suc, ◌+◌, ◌-◌, ◌<◌, ◌≤◌, Bool, true, false, inl, inr, List, [], ◌∷◌, ◌++◌, length, refl, sym, ◌∙◌, ap, subst, arith, Some, None, Option}
-use Rattle.std.specs.Prelude.{◌==◌, IfOk, OnOk, Result, Ok, Err, is_err, slice_get, slice_index_or, slice_set}
-use Rattle.std.proofs.lemmas.Bool.{cases_Bool, eqb-true, eqb-false}
+use Rattle.std.proofs.Common.{◌≡◌, ℕ, ◌-◌, ◌<◌, Bool, true, false, List, [], length, refl, sym, ◌∙◌, ap, subst, arith, Some, None, Option}
+use Rattle.std.specs.Prelude.{IfOk, OnOk, Result, Ok, Err, is_err, slice_get, slice_index_or}
 use Rattle.std.proofs.lemmas.List.{length-set}
 use Rattle.load_estimate.specs.declared.tick.Tick.{Tick as TickView}
 use Rattle.nf_api.specs.Acts.{Acts}
@@ -14,17 +13,13 @@ use Rattle.onvm_core.specs.declared.layout.Layout.{Layout}
 use Rattle.onvm_core.proofs.RoleKinds.{kind_port}
 use Rattle.onvm_core.proofs.Sums.{sum_same}
 use Rattle.onvm_core.specs.Blocks.RoleKind.{Receives}
-use Rattle.onvm_core.specs.Blocks.{kind_of}
 use Rattle.onvm_core.specs.Layouts.{first_role, tick_role}
-use Rattle.onvm_core.specs.Logs.{Log, Setting}
-use Rattle.onvm_core.specs.Potential.{sum_below}
+use Rattle.onvm_core.specs.Logs.{Setting}
 use Rattle.onvm_core.specs.Settings.{frame_count}
 use Rattle.onvm_promises.specs.Entries.{entries_from}
-use Rattle.onvm_promises.specs.Kept.{records_by}
 use Rattle.onvm_promises.specs.Roles.{Fits, IsTickPromise, setting_of}
 use Rattle.onvm_promises.specs.Sampling.{is_cost}
 use Rattle.rx_pass.proofs.Queues.{entries_long}
-use Rattle.tick_pass.specs.declared.role.TickRole.{TickRole}
 use Rattle.tick_pass.specs.Roles.{logged, ticked}
 use Rattle.onvm_session.specs.declared.leaving.Leavings.{Leavings}
 use Rattle.onvm_session.specs.declared.manager.Manager.{Manager}
@@ -42,15 +37,13 @@ use Rattle.onvm_session.proofs.SessionLists.{closing_counted, frames_pulled, ses
 use Rattle.onvm_session.specs.Accounts.{IsAccounted}
 use Rattle.onvm_session.specs.Boards.{view_of_closed, view_of_token}
 use Rattle.onvm_session.specs.Closings.{IsClosingTurn, IsRunOfKept, IsRunOfLists}
-use Rattle.onvm_session.specs.Endings.{Closes, IsClosed, closing_moments}
+use Rattle.onvm_session.specs.Endings.{Closes, IsClosed}
 use Rattle.onvm_session.specs.Gathering.{AreRunLists, recorded_count}
-use Rattle.onvm_session.specs.Lists.{all_told}
 use Rattle.onvm_session.specs.Managers.{FitsAll, IsManager, IsOver, IsUnderway, keeps_at, keeps_in, place_now, pulled_at, round_now, states_in}
 use Rattle.onvm_session.specs.Moments.{moment_of_round}
 use Rattle.onvm_session.specs.RoleStates.{FitsOne, acts_by, ended_in, keeps_of, kind_in, pulled_in, start_by}
 use Rattle.onvm_session.specs.Runs.{any_moment, view_of_run}
 use Rattle.onvm_session.specs.Sessions.{after_turn}
-use Rattle.onvm_session.specs.Views.{FinalView}
 
 -- what holds of an answer that is no refusal
 pub when_ok : {T E P : Type 0} (answer : Result T E) → is_err answer ≡ false → OnOk answer P → P

@@ -1,20 +1,20 @@
 -- The closing turn of a manager.
-use Rattle.std.proofs.Common.{◌≡◌, ℕ, zero, suc, ◌+◌, ◌-◌, ◌<◌, ◌≤◌, Bool, true, false, inl, inr, List, [], ◌∷◌, ◌++◌, length, refl, sym, ◌∙◌, ap, subst, arith, Some}
+use Rattle.std.proofs.Common.{◌≡◌, ℕ, zero, suc, ◌+◌, ◌-◌, true, false, inl, inr, List, [], ◌∷◌, ◌++◌, length, refl, sym, ◌∙◌, ap, subst, arith, Some}
 use Rattle.std.specs.Prelude.{◌==◌, if◌then◌else◌, option_to_list, slice_get, slice_index_or, slice_set}
 use Rattle.std.proofs.lemmas.Bool.{cases_Bool}
 use Rattle.std.proofs.lemmas.Option.{slice_get_read}
 use Rattle.onvm_base.specs.declared.plan.Plan.{Plan}
 use Rattle.onvm_core.specs.declared.entry.Entry.{Entry}
 use Rattle.onvm_core.specs.declared.layout.Layout.{Layout}
-use Rattle.onvm_core.specs.Blocks.{RoleKind, kind_of}
-use Rattle.onvm_core.specs.Blocks.RoleKind.{Receives, Sends, Handles, Ticks}
+use Rattle.onvm_core.specs.Blocks.{kind_of}
+use Rattle.onvm_core.specs.Blocks.RoleKind.{Ticks}
 use Rattle.onvm_core.specs.Layouts.{first_role, tick_role}
-use Rattle.onvm_core.specs.Logs.{Log, Setting}
+use Rattle.onvm_core.specs.Logs.{Setting}
 use Rattle.onvm_core.proofs.Lists.{if_met, if_unmet}
 use Rattle.onvm_core.proofs.RoleKinds.{kind_port, kind_sends, kind_tick}
 use Rattle.onvm_board.specs.Known.{is_split_in}
 use Rattle.onvm_board.specs.Rule.{AllJoined}
-use Rattle.onvm_board.specs.Tokens.{BoardView, IsFirstToken, TokenView, kept_log, split_token}
+use Rattle.onvm_board.specs.Tokens.{BoardView, TokenView, kept_log, split_token}
 use Rattle.nf_api.specs.Acts.{Acts}
 use Rattle.nf_api.specs.Tree.{Tree}
 use Rattle.onvm_promises.specs.Answers.{is_complete}
@@ -33,7 +33,6 @@ use Rattle.onvm_session.specs.Closings.{IsClosingTurn}
 use Rattle.onvm_session.specs.Leaving.{feeds_of}
 use Rattle.onvm_session.specs.Managers.{IsManager}
 use Rattle.onvm_session.specs.RoleStates.{IsReady, feed_of, kind_in}
-use Rattle.onvm_session.specs.Sessions.{after_turn}
 
 -- a setting of this layout and plan is told by its entries
 pub of_entries : (layout : Layout) (plan : Plan) (setting : Setting) → setting.layout ≡ layout → setting.plan ≡ plan

@@ -1,17 +1,15 @@
 -- What roles leave, put together, is what they kept by their numbers.
-use Rattle.std.proofs.Common.{◌≡◌, ◌≢◌, ℕ, zero, suc, ◌+◌, ◌-◌, ◌<◌, ◌≤◌, ◌⊎◌, Bool, true, false, inl, inr, List, [], ◌∷◌, ◌++◌, length, refl, sym, ◌∙◌, ap, subst, arith, append_assoc, Some, None, Option}
-use Rattle.std.specs.Prelude.{◌==◌, ◌^◌, min, nat_lt, slice_get, slice_set}
+use Rattle.std.proofs.Common.{◌≡◌, ◌≢◌, ℕ, zero, suc, ◌+◌, ◌-◌, ◌<◌, ◌≤◌, true, false, inl, inr, List, [], ◌∷◌, ◌++◌, length, refl, sym, ◌∙◌, ap, arith, append_assoc, Some, Option}
+use Rattle.std.specs.Prelude.{◌==◌, ◌^◌, min, nat_lt, slice_get}
 use Rattle.std.proofs.lemmas.Bool.{cases_Bool, le-ltb, ltb-false, ltb-true}
 use Rattle.std.proofs.lemmas.List.{append-nil}
-use Rattle.load_estimate.specs.declared.sample.Sample.{Sample}
-use Rattle.load_estimate.specs.declared.tick.Tick.{Tick as TickView}
 use Rattle.onvm_core.specs.declared.layout.Layout.{Layout}
 use Rattle.onvm_core.proofs.RoleKinds.{kind_other, kind_port, kind_sends}
-use Rattle.onvm_core.specs.Blocks.{RoleKind, kind_of}
+use Rattle.onvm_core.specs.Blocks.{kind_of}
 use Rattle.onvm_core.specs.Blocks.RoleKind.{Receives, Sends, Handles, Ticks, Leads}
 use Rattle.onvm_core.specs.Layouts.{first_role, tick_role}
 use Rattle.onvm_core.specs.Potential.{sum_below}
-use Rattle.onvm_promises.specs.Kept.{CoreKeeps, FeederKeeps, at_most_64_bits}
+use Rattle.onvm_promises.specs.Kept.{CoreKeeps, FeederKeeps}
 use Rattle.tick_pass.specs.declared.role.TickRole.{TickRole}
 use Rattle.tick_pass.specs.Roles.{logged, ticked}
 use Rattle.onvm_session.specs.declared.leaving.Leavings.{Leavings}

@@ -1,5 +1,5 @@
 -- A run that is put together of what roles leave behind the closing turn has the lists of what they kept before it.
-use Rattle.std.proofs.Common.{◌≡◌, ◌≢◌, ℕ, zero, suc, ◌+◌, ◌-◌, ◌<◌, ◌≤◌, Bool, true, false, inl, inr, List, [], ◌∷◌, ◌++◌, length, refl, sym, ◌∙◌, ap, subst, arith, append_assoc, Some, None, Option}
+use Rattle.std.proofs.Common.{◌≡◌, ◌≢◌, ℕ, zero, suc, ◌+◌, ◌-◌, ◌<◌, true, inl, inr, List, [], ◌∷◌, ◌++◌, length, refl, sym, ◌∙◌, ap, subst, arith, append_assoc, Some}
 use Rattle.std.specs.Prelude.{◌==◌, ◌^◌, min, option_to_list, slice_get, slice_set}
 use Rattle.std.proofs.lemmas.Bool.{cases_Bool, eqb-true, eqb-false}
 use Rattle.std.proofs.lemmas.List.{append-nil}
@@ -8,10 +8,9 @@ use Rattle.onvm_base.specs.declared.outcome.Record.{Record}
 use Rattle.onvm_board.specs.Closing.{ClosedView}
 use Rattle.onvm_core.proofs.Sums.{sum_same}
 use Rattle.onvm_core.specs.declared.layout.Layout.{Layout}
-use Rattle.onvm_core.specs.Blocks.{RoleKind, kind_of}
+use Rattle.onvm_core.specs.Blocks.{kind_of}
 use Rattle.onvm_core.specs.Layouts.{first_role, tick_role}
-use Rattle.onvm_core.specs.Potential.{sum_below}
-use Rattle.onvm_promises.specs.Kept.{CoreKeeps, FeederKeeps, at_most_64_bits}
+use Rattle.onvm_promises.specs.Kept.{CoreKeeps, FeederKeeps}
 use Rattle.rx_feed.specs.declared.feed.Feed.{Feed}
 use Rattle.tick_pass.specs.declared.role.TickRole.{TickRole}
 use Rattle.onvm_session.specs.declared.leaving.Leavings.{Leavings}

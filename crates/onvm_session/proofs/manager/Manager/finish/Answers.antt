@@ -1,7 +1,6 @@
 -- The closing turn, the closed board and what the roles left are those of a session that is accounted for.
-use Rattle.std.proofs.Common.{◌≡◌, ◌∙◌, ◌++◌, List, Vec, Global, ap, sym}
+use Rattle.std.proofs.Common.{◌∙◌, ◌++◌, Vec, Global, ap, sym}
 use Rattle.rx_feed.specs.declared.feed.Feed.{Feed}
-use Rattle.onvm_session.specs.Leaving.{feeds_of}
 use Rattle.onvm_session.proofs.Finishing.{all_finished, when_ok}
 use Rattle.onvm_session.proofs.PutTogether.{feeds_left}
 use Rattle.onvm_session.proofs.manager.Manager.finish.Goals as goal
