@@ -1,6 +1,6 @@
 use Rattle.std.proofs.Common.{length, refl}
 use Rattle.std.proofs.lemmas.Option.{slice_get_read}
-use Rattle.onvm_session.proofs.Draining.{drained_at, set_back}
+use Rattle.onvm_session.proofs.PortEnds.{drained_at, set_back}
 use Rattle.onvm_session.proofs.ManagerRuns.{grow_set}
 use Rattle.onvm_session.proofs.manager.Manager.drain_at.Goals as goal
 

@@ -1,5 +1,5 @@
 use Rattle.std.proofs.Common.{arith, rules, sym, ◌∙◌}
-use Rattle.onvm_session.proofs.Draining.{below_next, fault_next, has_fault}
+use Rattle.onvm_session.proofs.PortEnds.{below_next, fault_next, has_fault}
 use Rattle.onvm_session.proofs.Growing.{got_below}
 use Rattle.onvm_session.proofs.ManagerRuns.{grow_same, grow_then}
 use Rattle.onvm_session.proofs.manager.Manager.find_fault.Goals as goal
