@@ -1,7 +1,6 @@
 -- Loops over a list that is handed over, item by item.
-use Rattle.std.proofs.Common.{◌≡◌, ℕ, zero, suc, ◌+◌, ◌<◌, ◌≤◌, inl, inr, List, [], ◌∷◌, ◌++◌, length, refl, sym, ◌∙◌, ap, subst, arith, append_assoc, append-nil, Some, None, Option}
+use Rattle.std.proofs.Common.{◌≡◌, ℕ, zero, suc, ◌+◌, inl, inr, List, [], ◌∷◌, ◌++◌, length, refl, sym, ◌∙◌, ap, subst, arith, append_assoc, append-nil, Some, None, Option}
 use Rattle.std.specs.Prelude.{◌⊎◌, MatchOption, option_to_list, slice_get}
-use Rattle.std.proofs.lemmas.List.{length_push}
 use Rattle.onvm_session.proofs.Growing.{some_inj}
 
 -- Places
