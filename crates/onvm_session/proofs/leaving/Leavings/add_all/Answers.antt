@@ -25,7 +25,7 @@ loop-role-preserved g c =
     let feeds = ap (λ (xs : List (Role g.row.I.Denot g.row.N.Denot)). length (feeds_of xs)) {x = here} step.0 in
     let split = length-append (option_to_list (feed_of role)) (feeds_of rest) in
     let left = c.add.ensures.left in
-    let grown = ap length left.feeds in
+    let grown = ap length {x = c.add.new.self.feeds.items} left.feeds in
     let joined = length-append at.self.feeds.items (option_to_list (feed_of role)) in
     let capacity = left.room in
     let before = at.self.feeds.ok.0 in
