@@ -1,5 +1,5 @@
 -- Roles that have done nothing, of each kind.
-use Rattle.std.proofs.Common.{◌≡◌, ℕ, ◌+◌, ◌<◌, ◌≤◌, false, List, [], ◌∷◌, ◌++◌, length, refl, sym, ◌∙◌, ap, subst, arith, Some, None, Option}
+use Rattle.std.proofs.Common.{◌≡◌, ℕ, ◌+◌, ◌<◌, false, List, [], ◌∷◌, ◌++◌, length, refl, sym, ◌∙◌, ap, subst, arith, Some, None, Option}
 use Rattle.std.specs.Prelude.{slice_get}
 use Rattle.std.proofs.lemmas.List.{length_push}
 use Rattle.onvm_base.specs.declared.ids.FnId.{FnId}
@@ -97,12 +97,12 @@ module _ {I N : Type 0} (name_of : I → List ℕ) (left_of : I → Option (List
     core_new core role handler of role_is long functions own began ready = record {
       ready = λ token board number log hand. (
         ready token
-        (record {
-          board = board;
-          role = omega (arith, number, role_is, of.ports, of.transmit);
-          log = log;
-          hand = hand;
-        }),
+            (record {
+              board = board;
+              role = omega (arith, number, role_is, of.ports, of.transmit);
+              log = log;
+              hand = hand;
+            }),
         subst (λ (acts : Log). AreTimed is_cost plan acts) (sym log) tt,
       );
       in_order = λ setting moment fits. tt;

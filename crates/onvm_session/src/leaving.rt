@@ -42,6 +42,7 @@ impl<I: Drop> Leavings<I> {
         ensures sent { result.gathered.sent.items ≡ [] }
         ensures posts { result.gathered.posts.items ≡ [] }
         ensures yields { (result.gathered.yields ≡ 0) × (result.gathered.lost ≡ 0) }
+        ensures told { (result.samples ≡ []) × (result.ticks ≡ []) }
         ensures complete { result.complete ≡ true }
     {
         Leavings {

@@ -1,4 +1,4 @@
-use Rattle.std.proofs.Common.{◌≡◌, ◌∷◌, ◌++◌, ◌+◌, [], ℕ, Some, inl, inr, length, sym, ◌∙◌, subst, arith}
+use Rattle.std.proofs.Common.{◌≡◌, ◌∷◌, ◌++◌, ◌+◌, [], ℕ, Some, inl, inr, length, sym, subst, arith}
 use Rattle.std.specs.Iterator.Adapters.{zip_first, zip_second}
 use Rattle.std.specs.Vec.Iter.{into_iter_items, into_iter_len}
 use Rattle.std.proofs.lemmas.List.{length_push}
@@ -24,6 +24,7 @@ loop-room-preserved g c =
     let pushed = c.push_reserved.ensures in
     let longer = pushed.len in
     let capacity = pushed.capacity in
+    let same = was.capacity in
     record {
       can_next = (tt, tt);
       is_finite = tt;
@@ -40,7 +41,7 @@ loop-room-preserved g c =
       rooms_left = omega (arith, rooms_left, less, n);
       lists_left = omega (arith, lists_left, fewer, n);
       space = omega (arith, space, less, longer, capacity);
-      capacity = capacity ∙ was.capacity;
+      capacity = omega (arith, capacity, same);
       many = omega (arith, many, longer, n);
       new = λ site plan units feeds of cores long own old.
           let room = left_here c.args.rooms.items (into_iter_items (zip_first at.room-iterator))

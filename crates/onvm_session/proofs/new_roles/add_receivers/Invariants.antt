@@ -1,9 +1,8 @@
-use Rattle.std.proofs.Common.{◌≡◌, ◌+◌, ◌≤◌, ℕ, List, length, vec_capacity, vec_len}
+use Rattle.std.proofs.Common.{◌≡◌, ◌+◌, ◌≤◌, List, length, vec_capacity, vec_len}
 use Rattle.std.specs.Vec.Iter.{into_iter_items, into_iter_len}
 use Rattle.onvm_base.specs.declared.plan.Plan.{Plan}
 use Rattle.onvm_core.specs.Layouts.{IsLayoutOf}
 use Rattle.onvm_board.specs.Tokens.{BoardView}
-use Rattle.rx_feed.specs.declared.feed.Feed.{Feed}
 use Rattle.onvm_session.proofs.Draining.{IsLeftBehind, IsTaking}
 use Rattle.onvm_session.specs.Rooms.{AreNewUpTo, AreReceivers}
 use Rattle.onvm_session.proofs.new_roles.add_receivers.Given as goal

@@ -1,4 +1,4 @@
-use Rattle.std.proofs.Common.{◌≡◌, ◌∷◌, ◌++◌, ◌+◌, [], ℕ, length, ◌∙◌, ap, subst, arith}
+use Rattle.std.proofs.Common.{◌∷◌, ◌++◌, ◌+◌, [], ℕ, length, ◌∙◌, ap, subst, arith}
 use Rattle.std.specs.Vec.Iter.{into_iter_items, into_iter_len}
 use Rattle.std.proofs.lemmas.List.{length_push}
 use Rattle.onvm_session.proofs.Draining.{takes_all, takes_here, takes_more}
@@ -18,6 +18,7 @@ loop-room-preserved g c =
     let pushed = c.push_reserved.ensures in
     let longer = pushed.len in
     let capacity = pushed.capacity in
+    let same = was.capacity in
     let n = length_push at.yielded room in
     record {
       can_next = tt;
@@ -26,7 +27,7 @@ loop-room-preserved g c =
           (into_iter_items c.next.new.self) (into_iter_len at.room-iterator) (into_iter_len c.next.new.self) room
           was.taking step.0 less;
       space = omega (arith, space, less, longer, capacity);
-      capacity = capacity ∙ was.capacity;
+      capacity = omega (arith, capacity, same);
       many = omega (arith, many, longer, n);
       new = λ site plan units feeds senders old.
           let here = takes_here c.args.rooms.items at.yielded (into_iter_items at.room-iterator)

@@ -1,4 +1,4 @@
-use Rattle.std.proofs.Common.{◌+◌, length, subst, arith}
+use Rattle.std.proofs.Common.{subst, arith}
 use Rattle.onvm_base.specs.declared.plan.Plan.{Plan}
 use Rattle.nf_exec.specs.Rooms.{IsNewRoom as IsNewCoreRoom}
 use Rattle.onvm_session.proofs.Draining.{each_more}

@@ -1,4 +1,3 @@
-use Rattle.std.proofs.Common.{◌≤◌}
 use Rattle.onvm_session.specs.Rooms.{AreCores}
 use Rattle.onvm_session.proofs.rooms.cores.Given as goal
 

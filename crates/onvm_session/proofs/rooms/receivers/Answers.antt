@@ -1,4 +1,4 @@
-use Rattle.std.proofs.Common.{◌+◌, length, arith}
+use Rattle.std.proofs.Common.{arith}
 use Rattle.rx_pass.specs.Rooms.{IsNewRoom as IsNewReceiverRoom}
 use Rattle.onvm_session.proofs.Draining.{each_more}
 use Rattle.onvm_session.proofs.rooms.receivers.Goals as goal

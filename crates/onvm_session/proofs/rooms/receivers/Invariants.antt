@@ -1,4 +1,3 @@
-use Rattle.std.proofs.Common.{◌≤◌}
 use Rattle.onvm_session.specs.Rooms.{AreReceivers}
 use Rattle.onvm_session.proofs.rooms.receivers.Given as goal
 

@@ -1,4 +1,4 @@
-use Rattle.std.proofs.Common.{◌+◌, length, arith}
+use Rattle.std.proofs.Common.{◌+◌, arith}
 use Rattle.tx_pass.specs.Roles.{IsNewRole as IsNewSender}
 use Rattle.onvm_session.proofs.Draining.{each_more}
 use Rattle.onvm_session.proofs.rooms.senders.Goals as goal

@@ -1,4 +1,3 @@
-use Rattle.std.proofs.Common.{◌≤◌}
 use Rattle.onvm_session.specs.Rooms.{AreSenders}
 use Rattle.onvm_session.proofs.rooms.senders.Given as goal
 

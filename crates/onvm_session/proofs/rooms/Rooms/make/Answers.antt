@@ -1,4 +1,4 @@
-use Rattle.std.proofs.Common.{◌+◌, ◌≤◌, length, arith}
+use Rattle.std.proofs.Common.{arith}
 use Rattle.onvm_session.proofs.rooms.Rooms.make.Goals as goal
 
 pub returns : goal.returns
@@ -25,8 +25,19 @@ returns g c =
       units = c.in_ok-units.ensures;
       ticker = c.in_ok-ticker.ensures;
       roles = c.in_ok-roles.ensures.items;
-      role_room = omega (arith, ports, many_receivers, transmit, many_senders, many, many_cores, len, len_of_senders,
-          len_of_cores, role_room);
+      role_room = omega (
+        arith,
+        ports,
+        many_receivers,
+        transmit,
+        many_senders,
+        many,
+        many_cores,
+        len,
+        len_of_senders,
+        len_of_cores,
+        role_room,
+      );
       feeds = c.in_ok-feeds.ensures.items;
       feed_room = omega (arith, ports, many_receivers, len_again, feed_room);
     }
