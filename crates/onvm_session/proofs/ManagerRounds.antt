@@ -1,6 +1,6 @@
 -- Turns of a round.
-use Rattle.std.proofs.Common.{◌≡◌, ◌≢◌, ℕ, ◌+◌, ◌<◌, ◌≤◌, refl, sym, ◌∙◌, ap, subst, arith}
-use Rattle.std.specs.Prelude.{◌==◌, if◌then◌else◌}
+use Rattle.std.proofs.Common.{◌≡◌, ◌≢◌, ℕ, ◌+◌, ◌-◌, ◌*◌, ◌^◌, ◌<◌, ◌≤◌, refl, sym, ◌∙◌, ap, subst, arith}
+use Rattle.std.specs.Prelude.{◌==◌, if◌then◌else◌, min}
 use Rattle.std.proofs.lemmas.Bool.{eq-eqb, ne_eqb}
 use Rattle.onvm_core.proofs.Lists.{if_met, if_unmet}
 use Rattle.onvm_core.specs.declared.layout.Layout.{Layout}
@@ -9,6 +9,7 @@ use Rattle.onvm_session.specs.declared.manager.Manager.{Manager}
 use Rattle.onvm_session.specs.declared.role.Role.{Role}
 use Rattle.onvm_session.specs.declared.role.Role.TheVariants.{Receive, Send, Handle, Tick}
 use Rattle.onvm_session.specs.Managers.{place_now, round_now}
+use Rattle.onvm_session.specs.Moments.{moment_of_round}
 use Rattle.onvm_session.specs.RoleStates.{IsUpTo}
 use Rattle.onvm_session.specs.Views.{next_place}
 
@@ -72,6 +73,12 @@ round_next began old new place was less board next count =
     }
 
 -- Moments
+
+-- the moment of the next round
+pub next_moment : (now later round next : ℕ) → now ≡ moment_of_round round → next ≡ round + 1
+    → later ≡ min (now + 1000) (2 ^ 64 - 1) → (later ≡ moment_of_round next) × (now ≤ later)
+next_moment now later round next is count added =
+    (omega (arith, is, count, added), omega (arith, is, added))
 
 -- up to a moment is up to a later one
 pub upto_later : {I N : Type 0} (now later : ℕ) (role : Role I N) → now ≤ later → IsUpTo now role → IsUpTo later role
