@@ -1,6 +1,6 @@
 -- What a session answers that is over, or that a fault stopped.
 use Rattle.std.proofs.Common.{◌≡◌, ◌≢◌, ℕ, ◌<◌, ◌≤◌, true, List, [], ◌++◌, length, refl, sym, ◌∙◌, ap, subst, arith, append-nil, Some, None, Option}
-use Rattle.std.specs.Prelude.{slice_get}
+use Rattle.std.specs.Prelude.{Err, IfErr, IfOk, Ok, Result, slice_get}
 use Rattle.onvm_base.specs.declared.plan.Plan.{Plan}
 use Rattle.onvm_core.specs.declared.entry.Entry.{Entry}
 use Rattle.onvm_core.specs.Layouts.{IsLayoutOf}
@@ -18,16 +18,17 @@ use Rattle.onvm_session.specs.declared.manager.Manager.{Manager}
 use Rattle.onvm_session.specs.declared.role.Role.{Role}
 use Rattle.onvm_session.specs.declared.role.Role.TheVariants.{Receive, Send, Handle, Tick}
 use Rattle.onvm_session.specs.declared.run.Run.{Run}
+use Rattle.onvm_session.specs.declared.run.Stop.{Stop}
 use Rattle.onvm_session.proofs.Beginnings.{new_underway}
 use Rattle.onvm_session.proofs.Growing.{all_earlier, got_below, got_some}
 use Rattle.onvm_session.proofs.HandingBack.{receives_below}
-use Rattle.onvm_session.proofs.Tending.{IsTended, one_layout, stands_at}
+use Rattle.onvm_session.proofs.Tending.{IsTended, back_again, one_layout, stands_at}
 use Rattle.onvm_session.specs.Accounts.{IsAccounted}
 use Rattle.onvm_session.specs.Leaving.{feeds_of}
 use Rattle.onvm_session.specs.Managers.{AllGrow, FitsAll, GoesOn, HasFault, IsOver, IsUnderway}
 use Rattle.onvm_session.specs.RoleStates.{FitsOne, acts_by, ended_in, fault_of, standing_of, start_by}
 use Rattle.onvm_session.specs.Rooms.{IsNewManager}
-use Rattle.onvm_session.specs.Runs.{HasStopped, IsDone, StandsWith, any_moment, view_of_run}
+use Rattle.onvm_session.specs.Runs.{AreHandedBack, HasStopped, IsDone, IsStop, StandsWith, any_moment, told_fault, view_of_run}
 
 -- where a port stands
 abbrev pub standing_at : {I N : Type 0} → Option (Role I N) → Standing
@@ -134,3 +135,47 @@ module _ {I N : Type 0} (name_of : I → List ℕ) (left_of : I → Option (List
               has.lower p at.0 under at.1,
             );
       }
+
+  -- The same of what is handed back
+
+  pub is_stop : (stop : Stop) (back : List (Feed I)) → back ≡ manager.feeds.items ++ feeds_of manager.roles.items
+      → ((port : ℕ) (fault : FeedFault) → told_fault stop ≡ Some (port, fault)
+      → HasFault manager.roles.items port fault)
+      → IsStop name_of left_of takes_of plan given back stop
+  is_stop stop back is told port fault e =
+      subst (λ (feeds : List (Feed I)). HasStopped name_of left_of takes_of plan given feeds port fault) (sym is)
+      (stopped port fault (told port fault e))
+
+  pub all_done : (acts : N → Acts) (state : N → Tree) (units : List N) (first : Manager I N)
+      (outcome : Result Run Stop) (back : List (Feed I))
+      → IsNewManager name_of left_of takes_of acts state plan units given first
+      → AllGrow name_of left_of takes_of first manager
+      → GoesOn acts state true any_moment is_cost plan first manager
+      → IsOver manager
+      → back ≡ manager.feeds.items ++ feeds_of manager.roles.items
+      → IfOk outcome (λ run. (units : List N) (setting : Setting) → FitsAll plan setting manager
+      → IsUnderway acts state true any_moment is_cost 0 units setting manager
+      → IsAccounted true any_moment is_cost (acts_by acts state units) (start_by acts state units) setting
+      (view_of_run run))
+      → IfOk outcome (λ run. IsDone name_of left_of takes_of (acts_by acts state units) (start_by acts state units) plan
+      given back run)
+  all_done acts state units first (Ok run) back new grow on over is accounted =
+      subst (λ (feeds : List (Feed I)). IsDone name_of left_of takes_of (acts_by acts state units)
+      (start_by acts state units) plan given feeds run) (sym is)
+      (done acts state units first run new grow on over accounted)
+  all_done acts state units first (Err stop) back new grow on over is accounted = accounted
+
+  pub stopped_as : (stop : Stop) (outcome : Result Run Stop) (back : List (Feed I)) → outcome ≡ Err stop
+      → back ≡ manager.feeds.items ++ feeds_of manager.roles.items
+      → ((port : ℕ) (fault : FeedFault) → told_fault stop ≡ Some (port, fault)
+      → HasFault manager.roles.items port fault)
+      → IfErr outcome (λ stop. IsStop name_of left_of takes_of plan given back stop)
+  stopped_as stop outcome back is feeds told =
+      subst (λ (o : Result Run Stop). IfErr o (λ stop. IsStop name_of left_of takes_of plan given back stop)) (sym is)
+      (is_stop stop back feeds told)
+
+  pub back_as : (back : List (Feed I)) → back ≡ manager.feeds.items ++ feeds_of manager.roles.items
+      → AreHandedBack name_of given back
+  back_as back is =
+      subst (λ (feeds : List (Feed I)). AreHandedBack name_of given feeds) (sym is)
+      (back_again name_of left_of takes_of plan given manager tended few)

@@ -40,6 +40,7 @@ pub mod Passing
 pub mod Peeling
 pub mod Phasing
 pub mod Places
+pub mod PortEnds
 pub mod PutTogether
 pub mod Quiet
 pub mod Reading
