@@ -1,4 +1,5 @@
 //! Bursts of frames, and the time that one frame takes.
+ghost use Rattle.std.specs.Prelude.{◌<◌};
 
 /// Frames between two looks at the clock.
 pub const BURST: u32 = 64;
@@ -36,7 +37,14 @@ impl Cost {
 
     /// Prints the time of one frame in the fastest burst.
     pub fn print(&self, rt: &HostRuntime, name: &str) {
-        let tenths = self.least.saturating_mul(10) / u64::from(BURST);
+        self.print_of(rt, name, BURST);
+    }
+
+    /// The same of bursts of so many frames.
+    pub fn print_of(&self, rt: &HostRuntime, name: &str, frames: u32)
+        requires { 0 < frames }
+    {
+        let tenths = self.least.saturating_mul(10) / u64::from(frames);
         let _ = println!(rt;
             "{name}: {}.{} ns, sum {}",
             tenths / 10,

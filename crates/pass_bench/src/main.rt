@@ -1,13 +1,15 @@
 //! The program `pass_bench`: measures what passes of roles cost for each frame, beside the board's own
-//! steps, and what passes of the tick role cost.
+//! steps and the pulls of frames, and what passes of the tick role cost.
 #![tactic(auto)]
 
 mod cost;
 mod frames;
 mod passes;
 mod plans;
+mod receiving;
 mod roles;
 mod steps;
+mod stock;
 mod ticks;
 
 use onvm_base::NoMemory;
@@ -16,6 +18,7 @@ use onvm_core::Layout;
 use onvm_host::SysClock;
 use passes::cost_of_passes;
 use plans::plan;
+use receiving::measure_receiving;
 use std::env;
 use std::process::ExitCode;
 use steps::cost_of_steps;
@@ -44,6 +47,7 @@ fn rounds(rt: &HostRuntime) -> Option<u32> {
 
 fn measure_all(rt: &HostRuntime, rounds: u32) -> Result<(), NoMemory> {
     measure(rt, rounds)?;
+    measure_receiving(rt, rounds)?;
     for functions in [2, 8, 32] {
         measure_ticks(rt, functions, rounds)?;
     }
