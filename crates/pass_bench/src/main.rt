@@ -1,5 +1,5 @@
-//! The program `pass_bench`: measures what passes of transmit roles and cores cost for each frame,
-//! beside the board's own steps, and what passes of the tick role cost.
+//! The program `pass_bench`: measures what passes of roles cost for each frame, beside the board's own
+//! steps and the pulls of frames, and what passes of the tick role cost.
 #![tactic(auto)]
 
 mod cost;
@@ -7,8 +7,10 @@ mod frames;
 mod handlers;
 mod passes;
 mod plans;
+mod receiving;
 mod roles;
 mod steps;
+mod stock;
 mod ticks;
 
 use handlers::measure_cores;
@@ -18,6 +20,7 @@ use onvm_core::Layout;
 use onvm_host::SysClock;
 use passes::cost_of_passes;
 use plans::plan;
+use receiving::measure_receiving;
 use std::env;
 use std::process::ExitCode;
 use steps::cost_of_steps;
@@ -49,6 +52,7 @@ fn measure_all(rt: &HostRuntime, rounds: u32) -> Result<(), NoMemory> {
     measure_cores(rt, 1, rounds)?;
     measure_cores(rt, 4, rounds)?;
     measure_cores(rt, 16, rounds)?;
+    measure_receiving(rt, rounds)?;
     for functions in [2, 8, 32] {
         measure_ticks(rt, functions, rounds)?;
     }
