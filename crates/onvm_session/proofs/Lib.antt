@@ -17,6 +17,7 @@ pub mod LastRound
 pub mod Leading
 pub mod Listing
 pub mod ManagerGoing
+pub mod ManagerOver
 pub mod ManagerRounds
 pub mod ManagerRuns
 pub mod ManagerTokens
