@@ -1,12 +1,15 @@
 pub mod Accounted
+pub mod Answered
 pub mod Ascending
 pub mod Beginnings
 pub mod Boarding
 pub mod Closing
 pub mod Done
+pub mod Draining
 pub mod ExampleAccount
 pub mod ExampleSteps
 pub mod ExampleTurns
+pub mod Finishing
 pub mod Growing
 pub mod HandingBack
 pub mod IdleAccount
@@ -14,7 +17,9 @@ pub mod IdleRound
 pub mod IdleRun
 pub mod KeptByTurns
 pub mod LastRound
+pub mod LastTurn
 pub mod Leading
+pub mod LeftLists
 pub mod Listing
 pub mod ManagerGoing
 pub mod ManagerOver
@@ -22,6 +27,7 @@ pub mod ManagerRounds
 pub mod ManagerRuns
 pub mod ManagerTokens
 pub mod ManagerTurns
+pub mod NewRoles
 pub mod OverloadAccount
 pub mod OverloadCore
 pub mod OverloadPlan
@@ -35,9 +41,12 @@ pub mod Passing
 pub mod Peeling
 pub mod Phasing
 pub mod Places
+pub mod PortEnds
+pub mod PutTogether
 pub mod Quiet
 pub mod Reading
 pub mod RoleLists
+pub mod RolePasses
 pub mod Rounds
 pub mod Seating
 pub mod Serial
@@ -46,7 +55,9 @@ pub mod SessionLists
 pub mod Starting
 pub mod Stepping
 pub mod Summing
+pub mod Tending
 pub mod TickTurns
 pub mod Turning
+pub mod UnitLists
 pub mod Weaving
 pub mod WrongRuns
