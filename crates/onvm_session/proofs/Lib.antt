@@ -22,6 +22,7 @@ pub mod Leading
 pub mod LeftLists
 pub mod Listing
 pub mod ManagerGoing
+pub mod ManagerOver
 pub mod ManagerRounds
 pub mod ManagerRuns
 pub mod ManagerTokens

@@ -1,9 +1,8 @@
 -- Turns of a round.
-use Rattle.std.proofs.Common.{◌≡◌, ◌≢◌, ℕ, ◌+◌, ◌-◌, ◌*◌, ◌^◌, ◌<◌, ◌≤◌, refl, sym, ◌∙◌, ap, subst, arith}
+use Rattle.std.proofs.Common.{◌≡◌, ℕ, ◌+◌, ◌-◌, ◌^◌, ◌<◌, ◌≤◌, refl, ◌∙◌, ap, arith}
 use Rattle.std.specs.Prelude.{◌==◌, if◌then◌else◌, min}
 use Rattle.std.proofs.lemmas.Bool.{eq-eqb, ne_eqb}
 use Rattle.onvm_core.proofs.Lists.{if_met, if_unmet}
-use Rattle.onvm_core.specs.declared.layout.Layout.{Layout}
 use Rattle.onvm_core.specs.Layouts.{first_role}
 use Rattle.onvm_session.specs.declared.manager.Manager.{Manager}
 use Rattle.onvm_session.specs.declared.role.Role.{Role}
@@ -56,8 +55,10 @@ pub round_next : {I N : Type 0} (began old new : Manager I N) (place : ℕ) → 
     → IsInRound began (place + 1) new
 round_next began old new place was less board next count =
     let stood = was.on_way less in
-    let firsts : first_role old.board.layout ≡ first_role began.board.layout = ap (λ b. first_role b.layout) was.board in
-    let next_there : place_now new ≡ (if place_now old + 1 == first_role began.board.layout then 0 else place_now old + 1) =
+    let firsts : first_role old.board.layout ≡ first_role began.board.layout =
+    ap (λ b. first_role b.layout) was.board in
+    let next_there : place_now new
+    ≡ (if place_now old + 1 == first_role began.board.layout then 0 else place_now old + 1) =
     next ∙ ap (λ (n : ℕ). if place_now old + 1 == n then 0 else place_now old + 1) firsts in
     let count_there : round_now new
     ≡ (if place_now old + 1 == first_role began.board.layout then round_now old + 1 else round_now old) =

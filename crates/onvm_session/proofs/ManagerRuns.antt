@@ -1,5 +1,5 @@
 -- What turns do to a manager's roles, and turns after turns.
-use Rattle.std.proofs.Common.{◌≡◌, ◌≢◌, ℕ, zero, suc, ◌<◌, Bool, true, inl, inr, List, [], ◌∷◌, ◌++◌, length, refl, sym, ◌∙◌, ap, subst, arith, append-nil, append_assoc, Some, None, Option}
+use Rattle.std.proofs.Common.{◌≡◌, ◌≢◌, ℕ, zero, suc, ◌<◌, Bool, inl, inr, List, [], ◌∷◌, ◌++◌, length, refl, sym, ◌∙◌, ap, subst, arith, append-nil, append_assoc, Some, Option}
 use Rattle.std.specs.Prelude.{◌==◌, slice_get, slice_set}
 use Rattle.std.proofs.lemmas.Bool.{cases_Bool, eqb-false, eqb-true}
 use Rattle.std.proofs.lemmas.List.{length-set}
@@ -8,7 +8,6 @@ use Rattle.onvm_base.specs.declared.plan.Plan.{Plan}
 use Rattle.onvm_host.specs.Deeds.{Amounts}
 use Rattle.nf_api.specs.Acts.{Acts}
 use Rattle.nf_api.specs.Tree.{Tree}
-use Rattle.rx_feed.specs.declared.feed.Feed.{Feed}
 use Rattle.onvm_session.proofs.Growing.{all_earlier, got_below, got_some, some_inj}
 use Rattle.onvm_session.specs.declared.manager.Manager.{Manager}
 use Rattle.onvm_session.specs.declared.role.Role.{Role}

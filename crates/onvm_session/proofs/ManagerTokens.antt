@@ -1,27 +1,22 @@
 -- A role is ready with each token that has the board, the role, the log and the hand of one with which it is ready.
-use Rattle.std.proofs.Common.{◌≡◌, ℕ, ◌<◌, List, length, refl, sym, ◌∙◌, ap, subst, Some, None, Option}
+use Rattle.std.proofs.Common.{◌≡◌, ℕ, List, refl, sym, ◌∙◌, ap, subst, Some, None, Option}
 use Rattle.std.specs.Prelude.{slice_index_or}
 use Rattle.onvm_base.specs.declared.plan.Plan.{Plan}
 use Rattle.onvm_base.specs.declared.ids.RingId.{RingId}
 use Rattle.onvm_core.specs.Handling.{core_hand}
-use Rattle.onvm_core.specs.Layouts.{producer, consumer, ring_size}
-use Rattle.onvm_core.specs.Logs.{Log, push_count}
+use Rattle.onvm_core.specs.Logs.{Log}
 use Rattle.onvm_board.specs.declared.spot.Spot.{Spot}
 use Rattle.onvm_board.specs.Tokens.{BoardView, IsHead, IsTail, TokenView}
-use Rattle.desc_ring.specs.Arrays.{AreEnds, AreHeads, AreLaneHeads, AreLanes, AreMailHeads, IsHeadAt, IsMailHeadAt, IsTailAt, lane_from}
+use Rattle.desc_ring.specs.Arrays.{AreEnds, AreLanes, IsHeadAt, IsMailHeadAt, IsTailAt, lane_from}
 use Rattle.desc_ring.specs.Ends.{IsHeadOf, IsMailHead, IsMailTail, IsTailOf}
 use Rattle.entry_throttle.specs.Feeders.{FeederView, IsFeederOf}
 use Rattle.entry_throttle.specs.Lanes.{IsOwnEnd, KeepsEnough}
 use Rattle.entry_throttle.specs.Looks.{lane}
 use Rattle.nf_api.specs.Acts.{Acts}
 use Rattle.nf_api.specs.Tree.{Tree}
-use Rattle.nf_exec.specs.Roles.{IsAtWork, IsCoreRole}
-use Rattle.nf_exec.specs.Stations.{AreStations, IsStation, Stands, in_hand}
-use Rattle.rx_pass.specs.Roles.{IsRxRole}
-use Rattle.rx_pass.specs.Turns.{IsInletOf}
-use Rattle.tick_pass.specs.Roles.{AreMailsOf, IsTickRole}
-use Rattle.tx_pass.specs.Moving.{IsOutletOf}
-use Rattle.tx_pass.specs.Roles.{IsTransmit, IsTxRole}
+use Rattle.nf_exec.specs.Roles.{IsAtWork}
+use Rattle.nf_exec.specs.Stations.{IsStation, in_hand}
+use Rattle.tick_pass.specs.Roles.{AreMailsOf}
 use Rattle.onvm_session.specs.declared.role.Role.{Role}
 use Rattle.onvm_session.specs.declared.role.Role.TheVariants.{Receive, Send, Handle, Tick}
 use Rattle.onvm_session.specs.RoleStates.{IsReady}

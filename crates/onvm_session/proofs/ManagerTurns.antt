@@ -1,19 +1,17 @@
 -- A turn of a role: what is known of a manager behind it.
-use Rattle.std.proofs.Common.{◌≡◌, ◌≢◌, ℕ, ◌+◌, ◌<◌, Bool, true, false, inl, inr, List, [], ◌∷◌, length, refl, sym, ◌∙◌, ap, subst, arith, get_or-set_same, get_or-set_other, Some, None, Option}
+use Rattle.std.proofs.Common.{◌≡◌, ◌≢◌, ℕ, ◌<◌, Bool, true, false, inl, inr, List, [], length, refl, sym, ◌∙◌, ap, subst, arith, get_or-set_same, get_or-set_other, Some, Option}
 use Rattle.std.specs.Prelude.{◌==◌, if◌then◌else◌, slice_get, slice_index_or, slice_set}
-use Rattle.std.proofs.lemmas.Bool.{cases_Bool, eq-eqb, eqb-false, eqb-true, ne_eqb}
+use Rattle.std.proofs.lemmas.Bool.{cases_Bool, eqb-false, eqb-true}
 use Rattle.std.proofs.lemmas.List.{length-set}
-use Rattle.onvm_base.specs.declared.ids.FnId.{FnId}
 use Rattle.onvm_base.specs.declared.plan.Plan.{Plan}
 use Rattle.onvm_core.specs.declared.layout.Layout.{Layout}
 use Rattle.onvm_core.proofs.Lists.{if_met, if_unmet}
 use Rattle.onvm_core.specs.Blocks.{kind_of}
-use Rattle.onvm_core.specs.Layouts.{IsLayout, IsLayoutOf, core_role, first_role}
-use Rattle.onvm_core.specs.Logs.{Log, Setting}
+use Rattle.onvm_core.specs.Layouts.{IsLayout, IsLayoutOf, first_role}
+use Rattle.onvm_core.specs.Logs.{Setting}
 use Rattle.onvm_board.specs.Known.{is_split_in}
 use Rattle.onvm_board.specs.Rule.{AllJoined}
-use Rattle.onvm_board.specs.Tokens.{BoardView, IsFirstToken, TokenView, kept_log, split_token}
-use Rattle.onvm_host.specs.Deeds.{Amounts}
+use Rattle.onvm_board.specs.Tokens.{BoardView, TokenView, kept_log, split_token}
 use Rattle.nf_api.specs.Acts.{Acts}
 use Rattle.nf_api.specs.Tree.{Tree}
 use Rattle.onvm_promises.specs.declared.pass.Pass.{Pass}
@@ -22,19 +20,20 @@ use Rattle.onvm_promises.specs.Kept.{moment_then}
 use Rattle.onvm_session.proofs.Boarding.{turn_is}
 use Rattle.onvm_session.proofs.Growing.{got_below}
 use Rattle.onvm_session.proofs.ManagerRuns.{each_set, got_other, got_same}
-use Rattle.onvm_session.proofs.ManagerTokens.{IsSameToken, ready_with}
+use Rattle.onvm_session.proofs.ManagerTokens.{ready_with}
 use Rattle.onvm_session.specs.declared.manager.Manager.{Manager}
 use Rattle.onvm_session.specs.declared.role.Role.{Role}
 use Rattle.onvm_session.specs.declared.role.Role.TheVariants.{Receive, Send, Handle, Tick}
 use Rattle.onvm_session.specs.Boards.{token_after_turn, view_of_token}
-use Rattle.onvm_session.specs.Managers.{FitsAll, GoesOn, IsManager, IsUnderway, OfEach, keeps_at, keeps_in, place_now, round_now, state_at, states_in}
-use Rattle.onvm_session.specs.Moments.{moment_of_round, place_of_turn, round_of_turn}
+use Rattle.onvm_session.specs.Managers.{IsManager, OfEach, keeps_at, keeps_in, place_now, state_at, states_in}
+use Rattle.onvm_session.specs.Moments.{place_of_turn}
 use Rattle.onvm_session.specs.RoleStates.{FitsOne, HasStates, IsBoundTo, IsReady, IsRoleInOrder, StartedAt, acts_by, keeps_of, start_by}
-use Rattle.onvm_session.specs.Sessions.{IsRolePass, IsSession, Keeps, OthersKeep, after_turn, with_keeps, with_moment}
-use Rattle.onvm_session.specs.Views.{FinalView, next_place, place_in, role_at, turns_in}
+use Rattle.onvm_session.specs.Sessions.{IsRolePass, after_turn, with_keeps}
+use Rattle.onvm_session.specs.Views.{next_place, place_in, turns_in}
 
 -- no role is split behind a join of the only one that was
-joined_again : (r role : ℕ) (was : Bool) → was ≡ false → (if role == r then false else if role == r then true else was) ≡ false
+joined_again : (r role : ℕ) (was : Bool) → was ≡ false
+    → (if role == r then false else if role == r then true else was) ≡ false
 joined_again r role was none =
     elim (cases_Bool (role == r)) [
       | inl met ↦ if_met (role == r) false (if role == r then true else was) met
@@ -185,17 +184,6 @@ module _ {I N : Type 0} (acts : N → Acts) (state : N → Tree) (cost_may_take 
             old.roles.items role is below ready_own ready_other));
       }
 
-      pub turn_place : place_now new ≡ next_place old.board.layout (place_now old)
-      turn_place = ap (λ (l : Layout). place_in l new.first.log) same_layout ∙ place_is
-
-      pub turn_round : round_now new
-          ≡ (if place_now old + 1 == first_role old.board.layout then round_now old + 1 else round_now old)
-      turn_round =
-          ap (λ (l : Layout). round_of_turn l (turns_in (view_of_token new.first))) same_layout
-          ∙ ap (λ (t : TokenView). round_of_turn old.board.layout (turns_in (view_of_token t))) turn.first
-          ∙ ap (λ (place : ℕ). if place + 1 == first_role old.board.layout then round_now old + 1 else round_now old)
-          manager.places
-
       pub view_is : view_of_token new.first ≡ after_turn role seen token.log (view_of_token old.first)
       view_is =
           ap view_of_token turn.first
@@ -210,7 +198,8 @@ module _ {I N : Type 0} (acts : N → Acts) (state : N → Tree) (cost_may_take 
       found_other r apart =
           ap (λ (roles : List (Role I N)). slice_get roles r) turn.roles ∙ got_other old.roles.items role r is apart
 
-      keeps_at_each : (r : ℕ) → keeps_in new.roles.items r ≡ with_keeps role (keeps_of is) (keeps_in old.roles.items) r
+      keeps_at_each : (r : ℕ)
+          → keeps_in new.roles.items r ≡ with_keeps role (keeps_of is) (keeps_in old.roles.items) r
       keeps_at_each r =
           elim (cases_Bool (r == role)) [
             | inl met ↦

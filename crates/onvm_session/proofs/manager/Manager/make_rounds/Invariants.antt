@@ -11,6 +11,7 @@ invariant-loop g l = record {
   upto : OfEach (λ r role. IsUpTo l.now role) l.self.roles.items;
   place : place_now l.self ≡ 0;
   now : l.now ≡ moment_of_round (round_now l.self);
-  on : GoesOn g.N.NetFunction.acts g.N.NetFunction.state true any_moment (g.C.Clock.may_span l.clock) l.plan l.fn.self l.self;
+  on : GoesOn g.N.NetFunction.acts g.N.NetFunction.state true any_moment (g.C.Clock.may_span l.clock) l.plan l.fn.self
+      l.self;
   grow : AllGrow g.I.Source.name g.I.Source.left g.I.Source.takes l.fn.self l.self;
 }

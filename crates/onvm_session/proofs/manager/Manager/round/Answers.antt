@@ -1,7 +1,6 @@
-use Rattle.std.proofs.Common.{◌≡◌, ◌+◌, ◌∙◌, ◌<◌, ℕ, sym, ap, true, arith, length}
+use Rattle.std.proofs.Common.{◌≡◌, ◌∙◌, ◌<◌, sym, ap, true, arith}
 use Rattle.onvm_core.specs.declared.layout.Layout.{Layout}
 use Rattle.onvm_core.specs.Layouts.{first_role}
-use Rattle.onvm_session.specs.Managers.{place_now, round_now}
 use Rattle.onvm_session.specs.Moments.{moment_of_round}
 use Rattle.onvm_session.specs.Runs.{any_moment}
 use Rattle.onvm_session.specs.Views.{role_at}

@@ -10,6 +10,7 @@ invariant-loop-place g l = record {
   manager : IsManager g.N.NetFunction.acts g.N.NetFunction.state (g.C.Clock.may_span l.clock) l.plan l.self;
   upto : OfEach (λ r role. IsUpTo l.now role) l.self.roles.items;
   stands : IsInRound l.fn.self l.place l.self;
-  on : GoesOn g.N.NetFunction.acts g.N.NetFunction.state true any_moment (g.C.Clock.may_span l.clock) l.plan l.fn.self l.self;
+  on : GoesOn g.N.NetFunction.acts g.N.NetFunction.state true any_moment (g.C.Clock.may_span l.clock) l.plan l.fn.self
+      l.self;
   grow : AllGrow g.I.Source.name g.I.Source.left g.I.Source.takes l.fn.self l.self;
 }

@@ -1,18 +1,16 @@
-use Rattle.std.proofs.Common.{◌≡◌, ◌∙◌, ◌<◌, ℕ, sym, ap, subst, refl, true, Some, inl, inr, arith, length}
-use Rattle.std.specs.Prelude.{slice_get}
+use Rattle.std.proofs.Common.{◌≡◌, ◌∙◌, ◌<◌, ap, subst, refl, true, inl, inr, arith, length}
 use Rattle.std.specs.Vec.{with_item}
 use Rattle.std.proofs.lemmas.Option.{slice_get_read}
 use Rattle.onvm_board.specs.Tokens.{TokenView, token_after, token_after_join}
-use Rattle.onvm_promises.specs.declared.pass.Pass.{Pass}
 use Rattle.onvm_promises.specs.Answers.{is_complete}
 use Rattle.onvm_session.specs.declared.manager.Manager.{Manager}
-use Rattle.onvm_session.specs.Managers.{OfEach, place_now}
+use Rattle.onvm_session.specs.Managers.{place_now}
 use Rattle.onvm_session.specs.RoleStates.{IsUpTo}
 use Rattle.onvm_session.specs.Runs.{any_moment}
 use Rattle.onvm_session.specs.Views.{closing_look}
 use Rattle.onvm_session.proofs.ManagerGoing.{turn_on}
 use Rattle.onvm_session.proofs.ManagerRuns.{each_set, got_same, grow_set}
-use Rattle.onvm_session.proofs.ManagerTurns.{IsTurn, IsTurnPass, turn_manager, turn_place, turn_round}
+use Rattle.onvm_session.proofs.ManagerTurns.{IsTurn, IsTurnPass, turn_manager}
 use Rattle.onvm_session.proofs.Places.{role_below}
 use Rattle.onvm_session.proofs.manager.Manager.turn.Given.{Over}
 use Rattle.onvm_session.proofs.manager.Manager.turn.Goals as goal
