@@ -1,0 +1,137 @@
+//! Sessions of chain files, and what is told of them.
+ghost use Rattle.onvm_session.specs.Rooms.{AreFresh};
+
+use super::captures::{FRAME, capture, feed_of};
+use super::plans::one_function;
+use crate::{Ended, Feeds, Run, session};
+use chain_file::read;
+use load_estimate::{Share, TickLine};
+use nf_catalog::units;
+use onvm_base::{FnId, FrameId, ListOf, Outcome, PortId, Post, Record};
+use onvm_host::MemInput;
+use rx_feed::Feed;
+use std::alloc::Global;
+use std::sync::Wait;
+use std::test::Fail;
+
+pub const F: FnId = FnId(0);
+
+pub const G: FnId = FnId(1);
+
+/// The record of a frame of a port.
+pub fn record(port: u8, number: u32, outcome: Outcome) -> Record {
+    Record {
+        frame: FrameId {
+            port: PortId(port),
+            number,
+        },
+        outcome,
+    }
+}
+
+/// The record of a frame of port 0 that port 0 sent.
+pub fn sent(number: u32) -> Record {
+    record(0, number, Outcome::Sent(0))
+}
+
+/// The post of feeder 0.
+pub fn post(number: u32, moment: u64, bits: u32) -> Post {
+    Post {
+        feeder: 0,
+        number,
+        moment,
+        bits,
+    }
+}
+
+/// The line of a function whose frames took 100 nanoseconds.
+pub fn line(arrivals: u64, num: u128, den: u128, weight: u32) -> TickLine {
+    TickLine {
+        arrivals,
+        median: Some(100),
+        share: Some(Share { num, den, weight }),
+        weight,
+    }
+}
+
+/// The line of a function that did nothing, beside functions that did nothing or on a core of its
+/// own.
+pub const IDLE: TickLine = TickLine {
+    arrivals: 0,
+    median: None,
+    share: None,
+    weight: 1024,
+};
+
+/// One feed.
+pub fn one(alloc: Global, feed: Feed<MemInput>) -> Result<Feeds<MemInput>, Fail> {
+    let mut feeds = ListOf::make(alloc);
+    feeds.push(feed)?;
+    Ok(feeds)
+}
+
+/// What comes of a session of a chain file.
+pub fn end_of<R: Wait>(
+    rt: &R,
+    alloc: Global,
+    file: &str,
+    feeds: Feeds<MemInput>,
+) -> Result<Ended<MemInput>, Fail>
+    requires fresh { AreFresh feeds }
+{
+    let plan = read(alloc, file.as_bytes(), 1, &[])?;
+    if feeds.len() > usize::from(plan.ports) {
+        return Err(Fail::from("more feeds than ports"));
+    }
+    let units = units(alloc, &plan, Vec::new(alloc))?;
+    Ok(session(rt, alloc, &plan, units, feeds))
+}
+
+/// The run of a session of a chain file, which hands back each feed and each buffer.
+pub fn run_of<R: Wait>(
+    rt: &R,
+    alloc: Global,
+    file: &str,
+    feeds: Feeds<MemInput>,
+) -> Result<Run, Fail>
+    requires fresh { AreFresh feeds }
+{
+    let given = feeds.len();
+    let Ended { outcome, feeds } = end_of(rt, alloc, file, feeds)?;
+    let run = outcome?;
+    if feeds.len() != given {
+        return Err(Fail::from("a feed was not handed back"));
+    }
+    if run.closed.left() != 0 {
+        return Err(Fail::from("a buffer is not in the pool"));
+    }
+    Ok(run)
+}
+
+/// The run of these frames through one function.
+pub fn run_of_one<R: Wait>(
+    rt: &R,
+    alloc: Global,
+    top: &str,
+    kind: &str,
+    frames: &[[u8; 16]],
+) -> Result<Run, Fail> {
+    let file = one_function(alloc, top, kind)?;
+    let feed = feed_of(alloc, &capture(alloc, frames)?, &[])?;
+    run_of(rt, alloc, &file, one(alloc, feed)?)
+}
+
+/// The run of so many equal frames through one function.
+pub fn run_of_equal<R: Wait>(
+    rt: &R,
+    alloc: Global,
+    top: &str,
+    kind: &str,
+    frames: usize,
+) -> Result<Run, Fail> {
+    let mut equal = Vec::new(alloc);
+    for _ in 0..frames {
+        equal.push(FRAME)?;
+    }
+    run_of_one(rt, alloc, top, kind, &equal)
+}
