@@ -1,8 +1,6 @@
 //! One frame, pass by pass.
 ghost use Rattle.std.specs.Prelude.{◌≡◌, ◌≢◌, ◌<◌, ◌≤◌, ℕ, Some, length, slice_get};
 ghost use Rattle.onvm_promises.specs.Sampling.{is_cost};
-ghost use Rattle.nf_api.specs.Acts.{Acts};
-ghost use Rattle.onvm_host.specs.declared.memory.MemInput.{MemInput as MemInputView};
 ghost use Rattle.onvm_session.specs.RoleStates.{IsReady, IsUpTo};
 ghost use Rattle.onvm_session.specs.Rooms.{AreFresh};
 ghost use Rattle.onvm_session.specs.declared.role.Role.{Role as RoleView};
@@ -19,14 +17,14 @@ use nf_catalog::units;
 use nf_registry::Registry;
 use onvm_base::{ListOf, NoMemory, Plan};
 use onvm_board::{Board, Token};
-use onvm_host::{MemInput, StepClock};
+use onvm_host::{Source, StepClock};
 use onvm_promises::Pass;
 use std::alloc::Global;
 use std::test::Fail;
 
 // A pass of the role with this number.
-fn pass_of<N: NetFunction>(
-    roles: &mut Vec<Role<MemInput, N>>,
+fn pass_of<I: Source, N: NetFunction>(
+    roles: &mut Vec<Role<I, N>>,
     number: usize,
     alloc: Global,
     token: &mut Token,
@@ -35,13 +33,13 @@ fn pass_of<N: NetFunction>(
     registry: &Registry,
 ) -> Pass
     requires known { number < length roles.old.items }
-    requires ready { (role : RoleView MemInputView N) → slice_get roles.old.items number ≡ Some role
+    requires ready { (role : RoleView I N) → slice_get roles.old.items number ≡ Some role
         → IsReady N.acts N.state is_cost board.now plan.now token.old role }
-    requires upto { (role : RoleView MemInputView N) → slice_get roles.old.items number ≡ Some role → IsUpTo 0 role }
+    requires upto { (role : RoleView I N) → slice_get roles.old.items number ≡ Some role → IsUpTo 0 role }
     requires registry { registry.now ≡ plan.now }
-    ensures ready { (role : RoleView MemInputView N) → slice_get roles.new.items number ≡ Some role
+    ensures ready { (role : RoleView I N) → slice_get roles.new.items number ≡ Some role
         → IsReady N.acts N.state is_cost board.now plan.now token.new role }
-    ensures upto { (role : RoleView MemInputView N) → slice_get roles.new.items number ≡ Some role → IsUpTo 0 role }
+    ensures upto { (role : RoleView I N) → slice_get roles.new.items number ≡ Some role → IsUpTo 0 role }
     ensures others { (r : ℕ) → r ≢ number → slice_get roles.new.items r ≡ slice_get roles.old.items r }
     ensures many { length roles.new.items ≡ length roles.old.items }
 {
@@ -51,11 +49,11 @@ fn pass_of<N: NetFunction>(
 
 // What passes answer, of roles with tokens of their own: of the receive role, of it again, of the core, and
 // of the transmit role.
-fn answers_of<N: NetFunction>(
+fn answers_of<I: Source + Drop, N: NetFunction>(
     alloc: Global,
     plan: &Plan,
     units: ListOf<N>,
-    feeds: Feeds<MemInput>,
+    feeds: Feeds<I>,
 ) -> Result<(Pass, Pass, Pass, Pass), NoMemory>
     requires units { length units ≡ length plan.now.functions }
     requires feeds { length feeds ≤ plan.now.ports }
