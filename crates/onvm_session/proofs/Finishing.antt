@@ -30,7 +30,7 @@ use Rattle.onvm_session.specs.declared.run.Stop.{Stop}
 use Rattle.onvm_session.proofs.Boarding.{closed_is}
 use Rattle.onvm_session.proofs.Done.{done}
 use Rattle.onvm_session.proofs.Growing.{got_some}
-use Rattle.onvm_session.proofs.LastTurn.{kind_ready, of_entries}
+use Rattle.onvm_session.proofs.RolePasses.{ready_kind, setting_is}
 use Rattle.onvm_session.proofs.LeftLists.{AreOfKinds, ticks_left}
 use Rattle.onvm_session.proofs.PutTogether.{AreLeftOf, keeps_other, kinds_then, run_lists, set_there}
 use Rattle.onvm_session.proofs.SessionLists.{closing_counted, frames_pulled, session_lists}
@@ -86,7 +86,7 @@ module _ {I N : Type 0} (acts : N → Acts) (state : N → Tree) (plan : Plan) (
   where
     kinds : AreOfKinds old.board.layout old.roles.items
     kinds r role found =
-        kind_ready acts state is_cost old.board plan (split_token r old.first) role (manager.ready r role found)
+        ready_kind acts state is_cost old.board plan (split_token r old.first) role (manager.ready r role found)
 
     -- as many records as frames
     frames_are : (entries : List Entry) → IsOver old → FitsAll plan (setting_of old.board.layout plan entries) old
@@ -217,7 +217,7 @@ module _ {I N : Type 0} (acts : N → Acts) (state : N → Tree) (plan : Plan) (
             → IsUnderway acts state true any_moment is_cost 0 units s old
             → IsAccounted true any_moment is_cost (acts_by acts state units) (start_by acts state units) s
             (view_of_run run))
-            (of_entries old.board.layout plan setting fits.layout_is fits.plan_is)
+            (setting_is old.board.layout plan setting fits.layout_is fits.plan_is)
             (λ fits under. accounted units setting.entries fits under place some at over) fits under
 
     -- the run, if there is one

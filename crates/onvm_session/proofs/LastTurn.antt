@@ -32,28 +32,10 @@ use Rattle.onvm_session.specs.Boards.{token_after_turn, view_of_token}
 use Rattle.onvm_session.specs.Closings.{IsClosingTurn}
 use Rattle.onvm_session.specs.Leaving.{feeds_of}
 use Rattle.onvm_session.specs.Managers.{IsManager}
+use Rattle.onvm_session.proofs.RolePasses.{ready_kind, setting_is}
 use Rattle.onvm_session.specs.RoleStates.{IsReady, feed_of, kind_in}
 
--- a setting of this layout and plan is told by its entries
-pub of_entries : (layout : Layout) (plan : Plan) (setting : Setting) → setting.layout ≡ layout → setting.plan ≡ plan
-    → setting_of layout plan setting.entries ≡ setting
-of_entries layout plan setting of by =
-    λ i. record { layout = sym of i; plan = sym by i; entries = setting.entries }
-
 -- Which role is the tick role
-
-module _ {I N : Type 0} (acts : N → Acts) (state : N → Tree) (cost_may_take : ℕ → ℕ → Type 0) (site : BoardView)
-    (plan : Plan) (token : TokenView)
-  where
-    -- a role that is ready with a token is of the kind of its number
-    pub kind_ready : (role : Role I N) → IsReady acts state cost_may_take site plan token role
-        → kind_in role ≡ kind_of site.layout token.role
-    kind_ready (Receive rx) ready = sym (kind_port site.layout token.role ready.receives)
-    kind_ready (Send tx) ready =
-        sym (kind_sends site.layout token.role (token.role - site.layout.ports)
-        (omega (arith, ready.transmit.from)) (omega (arith, ready.transmit.from, ready.transmit.below)))
-    kind_ready (Handle core) ready = sym ready.0.work.kind
-    kind_ready (Tick tick) ready = sym (ap (kind_of site.layout) ready.mine ∙ kind_tick site.layout)
 
 is_ticks : {I N : Type 0} (role : Role I N) → kind_in role ≡ Ticks → (tick : TickRole) × (role ≡ Tick tick)
 is_ticks (Receive rx) kind = absurd (cc kind)
@@ -67,7 +49,7 @@ pub tick_ready : {I N : Type 0} (acts : N → Acts) (state : N → Tree) (cost_m
     → (tick : TickRole) × (role ≡ Tick tick)
 tick_ready acts state cost_may_take site plan token role at ready =
     is_ticks role
-    (kind_ready acts state cost_may_take site plan token role ready ∙ ap (kind_of site.layout) at
+    (ready_kind acts state cost_may_take site plan token role ready ∙ ap (kind_of site.layout) at
     ∙ kind_tick site.layout)
 
 -- the role that is read at its number
@@ -146,7 +128,7 @@ module _ {I N : Type 0} (acts : N → Acts) (state : N → Tree) (cost_may_take 
               IsTickerSoFar s (tick_role s.layout) moment (kept_log (tick_role s.layout) old.first) (logged before)
               → IsTickPromise s (tick_role s.layout) (first_of before) now true moment
               (kept_log (tick_role s.layout) old.first) token.log (logged after) (ticked before) (ticked after) answer)
-              (of_entries layout plan setting layout_is plan_is)
+              (setting_is layout plan setting layout_is plan_is)
               (subst (λ (t : TokenView).
               IsTickerSoFar (setting_of layout plan setting.entries) t.role moment t.log (logged before)
               → IsTickPromise (setting_of layout plan setting.entries) t.role (first_of before) now true moment t.log

@@ -28,6 +28,7 @@ use Rattle.tick_pass.specs.declared.role.TickRole.{TickRole}
 use Rattle.tick_pass.specs.Roles.{IsTickRole, first_of, latest_of, logged, ticked}
 use Rattle.tx_pass.specs.declared.role.TxRole.{TxRole}
 use Rattle.tx_pass.specs.Roles.{IsInOrder as IsSenderInOrder, IsNewRole as IsNewSender}
+use Rattle.onvm_session.proofs.RolePasses.{setting_is}
 use Rattle.onvm_session.specs.declared.role.Role.TheVariants.{Receive, Send, Handle, Tick}
 use Rattle.onvm_session.specs.declared.role.Role.{Role}
 use Rattle.onvm_session.proofs.Draining.{each_more}
@@ -71,7 +72,8 @@ module _ {I N : Type 0} (name_of : I → List ℕ) (left_of : I → Option (List
     sender_new number tx new = record {
       ready = λ token board role log hand. new.ready token board role log hand;
       in_order = λ setting moment fits.
-          subst (λ (s : Setting). IsSenderInOrder s number moment [] tx) (setting_is setting fits)
+          subst (λ (s : Setting). IsSenderInOrder s number moment [] tx)
+          (setting_is site.layout plan setting fits.0 fits.1)
           (new.in_order setting.entries moment);
       started = tt;
       bound = tt;
@@ -80,11 +82,6 @@ module _ {I N : Type 0} (name_of : I → List ℕ) (left_of : I → Option (List
       fed = tt;
       upto = tt;
     }
-      where
-        setting_is : (setting : Setting) → (setting.layout ≡ site.layout) × (setting.plan ≡ plan)
-            → setting_of site.layout plan setting.entries ≡ setting
-        setting_is setting fits =
-            λ i. record { layout = sym fits.0 i; plan = sym fits.1 i; entries = setting.entries }
 
     pub core_new : (core role : ℕ) (handler : CoreRole N) → IsLayoutOf plan site.layout
         → role ≡ plan.ports + plan.transmit + core

@@ -25,6 +25,7 @@ use Rattle.onvm_session.specs.declared.role.Role.TheVariants.{Receive, Send, Han
 use Rattle.onvm_session.proofs.Beginnings.{new_manager}
 use Rattle.onvm_session.proofs.Growing.{got_below, got_none, got_some, some_inj}
 use Rattle.onvm_session.proofs.HandingBack.{HaveFeeds, feed_at, few_feeds, handed_back, kinds_are, receives_below}
+use Rattle.onvm_session.proofs.RolePasses.{ready_kind}
 use Rattle.onvm_session.specs.Leaving.{feeds_of}
 use Rattle.onvm_session.specs.Managers.{AllGrow, AreFed, FitsAll, IsOver, OfEach}
 use Rattle.onvm_session.specs.RoleStates.{FitsOne, IsFedBy, IsReady, feed_of, kind_in, standing_of}
@@ -45,20 +46,6 @@ one_layout plan a b first other = λ i. record {
   output = (first.output ∙ sym other.output) i;
   core_of = (first.core_of ∙ sym other.core_of) i;
 }
-
--- a role that is ready is of the kind of its number
-pub ready_of_kind : {I N : Type 0} (acts : N → Acts) (state : N → Tree) (cost_may_take : ℕ → ℕ → Type 0) (site : _)
-    (plan : Plan) (token : _) (role : Role I N)
-    → IsReady acts state cost_may_take site plan token role → kind_in role ≡ kind_of site.layout token.role
-ready_of_kind acts state cost_may_take site plan token (Receive rx) ready =
-    sym (kind_port site.layout token.role ready.receives)
-ready_of_kind acts state cost_may_take site plan token (Send tx) ready =
-    sym (kind_sends site.layout token.role (token.role - site.layout.ports)
-    (let from = ready.transmit.from in omega (arith, from))
-    (let from = ready.transmit.from in let below = ready.transmit.below in omega (arith, from, below)))
-ready_of_kind acts state cost_may_take site plan token (Handle core) ready = sym ready.0.work.kind
-ready_of_kind acts state cost_may_take site plan token (Tick tick) ready =
-    sym (ap (kind_of site.layout) ready.mine ∙ kind_tick site.layout)
 
 -- Roles and feeds
 
@@ -82,7 +69,7 @@ module _ {I N : Type 0} (name_of : I → List ℕ) (left_of : I → Option (List
     ranges = new.ranges;
     many = new.roles.many;
     kinds = λ r role found.
-        ready_of_kind acts state is_cost manager.board plan (split_token r manager.first) role
+        ready_kind acts state is_cost manager.board plan (split_token r manager.first) role
         ((new_manager name_of left_of takes_of acts state plan units given manager new).ready r role found);
     fed = λ r role found. (new.roles.each r role found).fed;
     none = new.feeds;
