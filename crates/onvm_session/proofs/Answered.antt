@@ -1,8 +1,7 @@
 -- What a session answers that is over, or that a fault stopped.
-use Rattle.std.proofs.Common.{◌≡◌, ◌≢◌, ℕ, ◌<◌, ◌≤◌, true, List, [], ◌++◌, length, refl, sym, ◌∙◌, ap, subst, arith, append-nil, Some, None, Option}
+use Rattle.std.proofs.Common.{◌≡◌, ℕ, ◌<◌, ◌≤◌, true, List, [], ◌++◌, length, sym, ◌∙◌, ap, subst, arith, append-nil, Some, None, Option}
 use Rattle.std.specs.Prelude.{Err, IfErr, IfOk, Ok, Result, slice_get}
 use Rattle.onvm_base.specs.declared.plan.Plan.{Plan}
-use Rattle.onvm_core.specs.declared.entry.Entry.{Entry}
 use Rattle.onvm_core.specs.Layouts.{IsLayoutOf}
 use Rattle.onvm_core.specs.Logs.{Setting, entries_of_port}
 use Rattle.onvm_host.specs.Deeds.{Amounts}
@@ -20,13 +19,13 @@ use Rattle.onvm_session.specs.declared.role.Role.TheVariants.{Receive, Send, Han
 use Rattle.onvm_session.specs.declared.run.Run.{Run}
 use Rattle.onvm_session.specs.declared.run.Stop.{Stop}
 use Rattle.onvm_session.proofs.Beginnings.{new_underway}
-use Rattle.onvm_session.proofs.Growing.{all_earlier, got_below, got_some}
+use Rattle.onvm_session.proofs.Growing.{all_earlier, got_some}
 use Rattle.onvm_session.proofs.HandingBack.{receives_below}
 use Rattle.onvm_session.proofs.Tending.{IsTended, back_again, one_layout, stands_at}
 use Rattle.onvm_session.specs.Accounts.{IsAccounted}
 use Rattle.onvm_session.specs.Leaving.{feeds_of}
 use Rattle.onvm_session.specs.Managers.{AllGrow, FitsAll, GoesOn, HasFault, IsOver, IsUnderway}
-use Rattle.onvm_session.specs.RoleStates.{FitsOne, acts_by, ended_in, fault_of, standing_of, start_by}
+use Rattle.onvm_session.specs.RoleStates.{FitsOne, acts_by, fault_of, standing_of, start_by}
 use Rattle.onvm_session.specs.Rooms.{IsNewManager}
 use Rattle.onvm_session.specs.Runs.{AreHandedBack, HasStopped, IsDone, IsStop, StandsWith, any_moment, told_fault, view_of_run}
 

@@ -1,5 +1,5 @@
 -- A session of which no turn was made is a manager between turns, and its invariant holds.
-use Rattle.std.proofs.Common.{◌≡◌, ◌≢◌, ℕ, zero, suc, ◌+◌, ◌<◌, ◌≤◌, Bool, true, false, inl, inr, List, [], ◌∷◌, length, replicate, refl, sym, ◌∙◌, ap, subst, arith, Some, None, Option}
+use Rattle.std.proofs.Common.{◌≡◌, ℕ, zero, suc, ◌<◌, true, false, inl, inr, List, [], length, replicate, refl, sym, ◌∙◌, ap, subst, arith, Some, Option}
 use Rattle.std.specs.Prelude.{nat_lt, slice_get, slice_index, slice_index_or}
 use Rattle.std.proofs.lemmas.Bool.{cases_Bool, ltb-true, ltb-false}
 use Rattle.std.proofs.lemmas.List.{length-replicate}
@@ -7,9 +7,8 @@ use Rattle.onvm_base.specs.declared.ids.FnId.{FnId}
 use Rattle.onvm_base.specs.declared.plan.Plan.{Plan}
 use Rattle.onvm_core.specs.declared.layout.Layout.{Layout}
 use Rattle.onvm_core.specs.Blocks.{kind_of}
-use Rattle.onvm_core.specs.Blocks.RoleKind.{Receives, Sends, Handles, Ticks}
-use Rattle.onvm_core.specs.Handling.{IsOwn}
-use Rattle.onvm_core.specs.Layouts.{IsLayout, core_role, first_role, tick_role}
+use Rattle.onvm_core.specs.Blocks.RoleKind.{Handles, Ticks}
+use Rattle.onvm_core.specs.Layouts.{core_role, first_role}
 use Rattle.onvm_core.specs.Logs.{Log, Setting}
 use Rattle.onvm_board.specs.Known.{is_split_in}
 use Rattle.onvm_core.specs.Places.{how_many}
@@ -28,10 +27,10 @@ use Rattle.onvm_session.proofs.Growing.{got_none, got_some}
 use Rattle.onvm_session.proofs.Passing.{so_far_as}
 use Rattle.onvm_session.proofs.Starting.{session_starts}
 use Rattle.onvm_session.specs.Boards.{view_of_token}
-use Rattle.onvm_session.specs.Managers.{FitsAll, IsManager, IsUnderway, OfEach, keeps_at, keeps_in, place_now, state_at, states_in}
+use Rattle.onvm_session.specs.Managers.{FitsAll, IsManager, IsUnderway, OfEach, keeps_at, keeps_in, state_at, states_in}
 use Rattle.onvm_session.specs.Moments.{place_of_turn}
 use Rattle.onvm_session.specs.RoleStates.{IsReady, IsRoleInOrder, acts_by, keeps_of, start_by}
-use Rattle.onvm_session.specs.Rooms.{AreNewRoles, IsNewManager, IsNewRole}
+use Rattle.onvm_session.specs.Rooms.{IsNewManager, IsNewRole}
 use Rattle.onvm_session.specs.Runs.{any_moment}
 use Rattle.onvm_session.specs.Sessions.{IsSession, Keeps}
 use Rattle.onvm_session.specs.Starts.{first_view, no_keeps}

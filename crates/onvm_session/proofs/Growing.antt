@@ -1,14 +1,11 @@
 -- Roles that go on: what fits later ones fits the earlier ones.
-use Rattle.std.proofs.Common.{◌≡◌, ◌≢◌, ℕ, zero, suc, ◌+◌, ◌<◌, ◌≤◌, Bool, true, false, inl, inr, List, [], ◌∷◌, ◌++◌, length, refl, sym, ◌∙◌, ap, subst, arith, append_assoc, Some, None, Option}
+use Rattle.std.proofs.Common.{◌≡◌, ℕ, zero, suc, ◌+◌, ◌<◌, ◌≤◌, Bool, true, List, [], ◌∷◌, ◌++◌, length, refl, ◌∙◌, ap, subst, arith, Some, None, Option}
 use Rattle.std.specs.Prelude.{slice_get}
-use Rattle.std.proofs.lemmas.Bool.{cases_Bool}
 use Rattle.onvm_base.specs.declared.frame.Frame.{Frame}
 use Rattle.onvm_base.specs.declared.ids.PortId.{PortId}
 use Rattle.onvm_base.specs.declared.plan.Plan.{Plan}
 use Rattle.onvm_core.specs.declared.entry.Entry.{Entry}
 use Rattle.onvm_core.specs.declared.layout.Layout.{Layout}
-use Rattle.onvm_core.specs.Blocks.{RoleKind}
-use Rattle.onvm_core.specs.Blocks.RoleKind.{Receives, Sends, Handles, Ticks}
 use Rattle.onvm_core.specs.Logs.{Setting}
 use Rattle.onvm_host.specs.Deeds.{Amounts}
 use Rattle.onvm_promises.proofs.Fitting.{fits_earlier}
@@ -18,7 +15,7 @@ use Rattle.onvm_session.specs.declared.manager.Manager.{Manager}
 use Rattle.onvm_session.specs.declared.role.Role.{Role}
 use Rattle.onvm_session.specs.declared.role.Role.TheVariants.{Receive, Send, Handle, Tick}
 use Rattle.onvm_session.specs.Managers.{AllGrow, FitsAll}
-use Rattle.onvm_session.specs.RoleStates.{FitsOne, Grows, kind_in}
+use Rattle.onvm_session.specs.RoleStates.{FitsOne, Grows}
 
 -- Places of a list
 

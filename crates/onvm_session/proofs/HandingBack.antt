@@ -1,11 +1,10 @@
 -- The feeds that roles leave are those that were handed in, port by port.
-use Rattle.std.proofs.Common.{◌≡◌, ◌≢◌, ℕ, zero, suc, ◌+◌, ◌-◌, ◌<◌, ◌≤◌, Bool, true, false, inl, inr, List, [], ◌∷◌, ◌++◌, length, refl, sym, ◌∙◌, ap, subst, arith, length-append, Some, None, Option}
+use Rattle.std.proofs.Common.{◌≡◌, ℕ, zero, suc, ◌+◌, ◌-◌, ◌<◌, ◌≤◌, inl, inr, List, [], ◌∷◌, ◌++◌, length, refl, sym, ◌∙◌, ap, subst, arith, length-append, Some, None, Option}
 use Rattle.std.specs.Prelude.{◌==◌, nat_lt, slice_get, option_to_list}
 use Rattle.std.proofs.lemmas.Bool.{cases_Bool, ltb-true, ltb-false}
 use Rattle.onvm_core.specs.declared.layout.Layout.{Layout}
-use Rattle.onvm_core.specs.Blocks.{RoleKind, kind_of}
+use Rattle.onvm_core.specs.Blocks.{kind_of}
 use Rattle.onvm_core.specs.Blocks.RoleKind.{Receives, Sends, Handles, Ticks, Leads}
-use Rattle.onvm_host.specs.Deeds.{Amounts}
 use Rattle.rx_feed.specs.declared.feed.Feed.{Feed}
 use Rattle.rx_feed.specs.declared.feed.Feed.TheVariants.{Live, Made}
 use Rattle.rx_feed.specs.Feeds.{StaysFeed}

@@ -1,5 +1,5 @@
 -- The closing turn of a manager.
-use Rattle.std.proofs.Common.{◌≡◌, ℕ, zero, suc, ◌+◌, ◌-◌, true, false, inl, inr, List, [], ◌∷◌, ◌++◌, length, refl, sym, ◌∙◌, ap, subst, arith, Some}
+use Rattle.std.proofs.Common.{◌≡◌, ℕ, zero, suc, ◌+◌, true, false, inl, inr, List, [], ◌∷◌, ◌++◌, length, refl, sym, ◌∙◌, ap, subst, arith, Some}
 use Rattle.std.specs.Prelude.{◌==◌, if◌then◌else◌, option_to_list, slice_get, slice_index_or, slice_set}
 use Rattle.std.proofs.lemmas.Bool.{cases_Bool}
 use Rattle.std.proofs.lemmas.Option.{slice_get_read}
@@ -11,7 +11,7 @@ use Rattle.onvm_core.specs.Blocks.RoleKind.{Ticks}
 use Rattle.onvm_core.specs.Layouts.{first_role, tick_role}
 use Rattle.onvm_core.specs.Logs.{Setting}
 use Rattle.onvm_core.proofs.Lists.{if_met, if_unmet}
-use Rattle.onvm_core.proofs.RoleKinds.{kind_port, kind_sends, kind_tick}
+use Rattle.onvm_core.proofs.RoleKinds.{kind_tick}
 use Rattle.onvm_board.specs.Known.{is_split_in}
 use Rattle.onvm_board.specs.Rule.{AllJoined}
 use Rattle.onvm_board.specs.Tokens.{BoardView, TokenView, kept_log, split_token}

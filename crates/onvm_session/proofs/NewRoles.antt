@@ -17,7 +17,6 @@ use Rattle.nf_exec.specs.Rooms.{IsFresh}
 use Rattle.nf_exec.specs.Stations.{functions_of}
 use Rattle.nf_exec.proofs.Rooming.{core_is}
 use Rattle.nf_registry.specs.Places.{residents}
-use Rattle.onvm_promises.specs.Roles.{setting_of}
 use Rattle.onvm_promises.specs.Sampling.{AreTimed, is_cost}
 use Rattle.rx_feed.specs.declared.feed.Feed.{Feed}
 use Rattle.rx_feed.specs.declared.feed.Feed.TheVariants as feed

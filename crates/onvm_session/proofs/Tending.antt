@@ -1,34 +1,30 @@
 -- What stays of roles and feeds whatever passes answer, and what it says of a session that ended.
-use Rattle.std.proofs.Common.{◌≡◌, ◌≢◌, ℕ, zero, suc, ◌+◌, ◌-◌, ◌<◌, ◌≤◌, Bool, true, false, inl, inr, List, [], ◌∷◌, ◌++◌, length, refl, sym, ◌∙◌, ap, subst, arith, Some, None, Option}
+use Rattle.std.proofs.Common.{◌≡◌, ◌≢◌, ℕ, ◌+◌, ◌<◌, ◌≤◌, inl, inr, List, [], ◌++◌, length, refl, sym, ◌∙◌, ap, subst, arith, Some, None, Option}
 use Rattle.std.specs.Prelude.{nat_lt, slice_get, vec_capacity, vec_len}
 use Rattle.std.proofs.lemmas.Bool.{cases_Bool, ltb-true, ltb-false}
 use Rattle.onvm_base.specs.declared.plan.Plan.{Plan}
 use Rattle.onvm_core.specs.declared.layout.Layout.{Layout}
-use Rattle.onvm_core.proofs.RoleKinds.{kind_port, kind_sends, kind_tick}
+use Rattle.onvm_core.proofs.RoleKinds.{kind_port}
 use Rattle.onvm_core.specs.Blocks.{RoleKind, kind_of}
 use Rattle.onvm_core.specs.Blocks.RoleKind.{Receives, Sends, Handles, Ticks}
 use Rattle.onvm_core.specs.Layouts.{IsLayout, IsLayoutOf, first_role}
-use Rattle.onvm_core.specs.Logs.{Setting}
 use Rattle.onvm_board.specs.Tokens.{split_token}
 use Rattle.onvm_host.specs.Deeds.{Amounts}
 use Rattle.nf_api.specs.Acts.{Acts}
 use Rattle.nf_api.specs.Tree.{Tree}
-use Rattle.onvm_promises.specs.Entries.{IsRunOf}
 use Rattle.onvm_promises.specs.Sampling.{is_cost}
-use Rattle.rx_feed.specs.declared.fault.FeedFault.{FeedFault}
 use Rattle.rx_feed.specs.declared.feed.Feed.{Feed}
-use Rattle.rx_feed.specs.Feeds.{StaysFeed, no_standing}
-use Rattle.rx_feed.specs.Standing.{Standing}
+use Rattle.rx_feed.specs.Feeds.{StaysFeed}
 use Rattle.onvm_session.specs.declared.manager.Manager.{Manager}
 use Rattle.onvm_session.specs.declared.role.Role.{Role}
 use Rattle.onvm_session.specs.declared.role.Role.TheVariants.{Receive, Send, Handle, Tick}
 use Rattle.onvm_session.proofs.Beginnings.{new_manager}
-use Rattle.onvm_session.proofs.Growing.{got_below, got_none, got_some, some_inj}
-use Rattle.onvm_session.proofs.HandingBack.{HaveFeeds, feed_at, few_feeds, handed_back, kinds_are, receives_below}
+use Rattle.onvm_session.proofs.Growing.{got_below, got_none, got_some}
+use Rattle.onvm_session.proofs.HandingBack.{HaveFeeds, feed_at, few_feeds, handed_back, kinds_are}
 use Rattle.onvm_session.proofs.RolePasses.{ready_kind}
 use Rattle.onvm_session.specs.Leaving.{feeds_of}
-use Rattle.onvm_session.specs.Managers.{AllGrow, AreFed, FitsAll, IsOver, OfEach}
-use Rattle.onvm_session.specs.RoleStates.{FitsOne, IsFedBy, IsReady, feed_of, kind_in, standing_of}
+use Rattle.onvm_session.specs.Managers.{AllGrow, AreFed, OfEach}
+use Rattle.onvm_session.specs.RoleStates.{IsFedBy, feed_of, kind_in, standing_of}
 use Rattle.onvm_session.specs.Rooms.{IsNewManager}
 use Rattle.onvm_session.specs.Runs.{AreHandedBack, StandsWith}
 

@@ -1,5 +1,5 @@
 -- What roles leave: their feeds, and the lists that they kept.
-use Rattle.std.specs.Prelude.{ℕ, ◌≡◌, ◌+◌, Bool, true, List, [], ◌∷◌, ◌++◌, length, option_to_list, vec_capacity}
+use Rattle.std.specs.Prelude.{◌≡◌, ◌+◌, true, List, [], ◌∷◌, ◌++◌, option_to_list, vec_capacity}
 use Rattle.load_estimate.specs.declared.sample.Sample.{Sample}
 use Rattle.load_estimate.specs.declared.tick.Tick.{Tick as TickView}
 use Rattle.onvm_promises.specs.Kept.{at_most_64_bits}

@@ -19,10 +19,9 @@ use Rattle.onvm_session.specs.declared.role.Role.{Role}
 use Rattle.onvm_session.specs.declared.role.Role.TheVariants.{Receive, Send, Handle, Tick}
 use Rattle.onvm_session.specs.Boards.{view_of_token}
 use Rattle.onvm_session.specs.Moments.{place_of_turn, round_of_turn}
-use Rattle.onvm_session.specs.RoleStates.{FitsOne, Grows, IsBoundTo, IsFed, IsReady, IsRoleInOrder, IsUpTo, StartedAt, acts_by, ended_in, fault_of, keeps_of, pulled_in, start_by}
+use Rattle.onvm_session.specs.RoleStates.{FitsOne, Grows, IsBoundTo, IsFed, IsReady, IsRoleInOrder, StartedAt, acts_by, ended_in, fault_of, keeps_of, pulled_in, start_by}
 use Rattle.onvm_session.specs.Sessions.{IsSession, Keeps}
 use Rattle.onvm_session.specs.Starts.{no_keeps}
-use Rattle.onvm_session.specs.Turns.{Turn}
 use Rattle.onvm_session.specs.Views.{place_in, turns_in}
 
 -- What roles keep, by their numbers

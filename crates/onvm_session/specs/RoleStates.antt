@@ -1,5 +1,5 @@
 -- A role of whatever kind between its passes: what it keeps, what its next pass asks, and what it knows of its feed.
-use Rattle.std.specs.Prelude.{ℕ, ◌≡◌, ◌≢◌, ◌⊎◌, ◌<◌, ◌≤◌, Bool, true, false, List, [], ◌++◌, Option, Some, None, slice_get}
+use Rattle.std.specs.Prelude.{ℕ, ◌≡◌, ◌≢◌, ◌⊎◌, ◌<◌, ◌≤◌, Bool, true, false, List, ◌++◌, Option, None, slice_get}
 use Rattle.onvm_base.specs.declared.frame.Frame.{Frame}
 use Rattle.onvm_base.specs.declared.ids.FnId.{FnId}
 use Rattle.onvm_base.specs.declared.plan.Plan.{Plan}

@@ -1,5 +1,5 @@
 -- What a session answers.
-use Rattle.std.specs.Prelude.{ℕ, ◌≡◌, ◌≢◌, ◌<◌, true, List, length, Option, Some, None, slice_get}
+use Rattle.std.specs.Prelude.{ℕ, ◌≡◌, ◌<◌, true, List, length, Option, Some, None, slice_get}
 use Rattle.onvm_base.specs.declared.plan.Plan.{Plan}
 use Rattle.onvm_core.specs.Journals.{Handling}
 use Rattle.onvm_core.specs.Logs.{Setting}

@@ -1,4 +1,4 @@
-use Rattle.std.proofs.Common.{◌≡◌, ◌∙◌, ◌++◌, Vec, Global, ap}
+use Rattle.std.proofs.Common.{◌∙◌, ◌++◌, Vec, Global, ap}
 use Rattle.rx_feed.specs.declared.feed.Feed.{Feed}
 use Rattle.onvm_session.specs.Leaving.{feeds_of}
 use Rattle.onvm_session.proofs.PutTogether.{feeds_left}
