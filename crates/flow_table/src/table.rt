@@ -1,5 +1,5 @@
 //! What rules pick, remembered by flow.
-ghost use Rattle.std.specs.Prelude.{◌≡◌, IfOk};
+ghost use Rattle.std.specs.Prelude.{◌≡◌, ◌≢◌, [], IfOk};
 ghost use Rattle.flow_table.specs.Flows.{table_of};
 ghost use Rattle.rule_match.specs.Rules.{chain_of, first_chain};
 
@@ -58,8 +58,10 @@ impl FlowTable {
         self.picked(heads).unwrap_or(plan.default)
     }
 
-    // The chain that the rules pick for a frame.
+    // The chain that the rules pick for a frame. No other function looks at the flows, and none asks
+    // without rules.
     fn picked(&mut self, heads: &Heads) -> Option<ChainId>
+        requires some { self.old.rules ≢ [] }
         ensures picked { result ≡ first_chain self.old.rules self.old.port heads.now }
         ensures same { self.new ≡ self.old }
     {

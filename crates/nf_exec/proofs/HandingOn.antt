@@ -1,5 +1,5 @@
 -- A parcel in hand is handled and goes on.
-use Rattle.std.proofs.Common.{◌≡◌, ◌+◌, ◌-◌, ◌<◌, List, [], ◌∷◌, ◌++◌, Some, None, Option, refl, ap, ◌∙◌}
+use Rattle.std.proofs.Common.{◌≡◌, ◌<◌, List, [], ◌∷◌, ◌++◌, Some, None, Option, refl, ap, ◌∙◌}
 use Rattle.std.specs.Prelude.{◌==◌, if◌then◌else◌}
 use Rattle.std.proofs.lemmas.Bool.{eq-eqb}
 use Rattle.onvm_base.specs.declared.ids.BufId.{BufId}
@@ -16,7 +16,7 @@ use Rattle.onvm_core.specs.Journals.{Handling, handling, journal, last_popped_pa
 use Rattle.onvm_core.specs.Layouts.{core_role}
 use Rattle.onvm_core.specs.Places.{how_many}
 use Rattle.onvm_core.proofs.Lists.{last_of_push}
-use Rattle.onvm_board.specs.Tokens.{BoardView, TokenView, grown, parcel_in}
+use Rattle.onvm_board.specs.Tokens.{BoardView, TokenView, parcel_in}
 use Rattle.nf_api.specs.Acts.{Acts}
 use Rattle.nf_api.specs.Tree.{Tree}
 use Rattle.onvm_promises.specs.Roles.{setting_of}

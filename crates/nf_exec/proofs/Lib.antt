@@ -1,7 +1,6 @@
 pub mod Doing
 pub mod Elsewhere
 pub mod Empties
-pub mod Examples
 pub mod Glancing
 pub mod HandingOn
 pub mod Keeping

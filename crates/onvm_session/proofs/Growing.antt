@@ -1,5 +1,5 @@
 -- Roles that go on: what fits later ones fits the earlier ones.
-use Rattle.std.proofs.Common.{◌≡◌, ◌≢◌, ℕ, zero, suc, ◌+◌, ◌<◌, ◌≤◌, Bool, true, false, inl, inr, List, [], ◌∷◌, ◌++◌, length, refl, sym, ◌∙◌, ap, subst, arith, append_assoc, Some, None}
+use Rattle.std.proofs.Common.{◌≡◌, ◌≢◌, ℕ, zero, suc, ◌+◌, ◌<◌, ◌≤◌, Bool, true, false, inl, inr, List, [], ◌∷◌, ◌++◌, length, refl, sym, ◌∙◌, ap, subst, arith, append_assoc, Some, None, Option}
 use Rattle.std.specs.Prelude.{slice_get}
 use Rattle.std.proofs.lemmas.Bool.{cases_Bool}
 use Rattle.onvm_base.specs.declared.frame.Frame.{Frame}
@@ -99,7 +99,7 @@ one_earlier layout plan r (Tick tick) (Send now) setting grows fits = fits
 one_earlier layout plan r (Tick tick) (Handle now) setting grows fits = fits
 one_earlier layout plan r (Tick tick) (Tick now) setting grows fits = fits
 
-pub all_earlier : {I N : Type 0} (name_of : I → List ℕ) (left_of : I → _) (takes_of : I → Amounts) (plan : Plan)
+pub all_earlier : {I N : Type 0} (name_of : I → List ℕ) (left_of : I → Option (List ℕ)) (takes_of : I → Amounts) (plan : Plan)
     (setting : Setting) (old new : Manager I N)
     → AllGrow name_of left_of takes_of old new → FitsAll plan setting new → FitsAll plan setting old
 all_earlier name_of left_of takes_of plan setting old new grow fits = record {

@@ -41,14 +41,14 @@ one_at_most (Some x) = omega arith
 pub receives_below : (layout : Layout) (r : ℕ) → kind_of layout r ≡ Receives → r < layout.ports
 receives_below layout r is =
     elim (cases_Bool (nat_lt r layout.ports)) [
-      | inl yes ↦ ltb-true r layout.ports yes
-      | inr no ↦ elim (cases_Bool (nat_lt r (layout.ports + layout.transmit))) [
-        | inl b ↦ let off : Sends ≡ Receives = rw (no, b) at is in absurd (cc off)
+      | inl under ↦ ltb-true r layout.ports under
+      | inr over ↦ elim (cases_Bool (nat_lt r (layout.ports + layout.transmit))) [
+        | inl b ↦ let off : Sends ≡ Receives = rw (over, b) at is in absurd (cc off)
         | inr b ↦ elim (cases_Bool (nat_lt r (layout.ports + layout.transmit + layout.cores))) [
-          | inl c ↦ let off : Handles ≡ Receives = rw (no, b, c) at is in absurd (cc off)
+          | inl c ↦ let off : Handles ≡ Receives = rw (over, b, c) at is in absurd (cc off)
           | inr c ↦ elim (cases_Bool (r == layout.ports + layout.transmit + layout.cores)) [
-            | inl d ↦ let off : Ticks ≡ Receives = rw (no, b, c, d) at is in absurd (cc off)
-            | inr d ↦ let off : Leads ≡ Receives = rw (no, b, c, d) at is in absurd (cc off)
+            | inl d ↦ let off : Ticks ≡ Receives = rw (over, b, c, d) at is in absurd (cc off)
+            | inr d ↦ let off : Leads ≡ Receives = rw (over, b, c, d) at is in absurd (cc off)
           ]
         ]
       ]
@@ -77,8 +77,8 @@ few_feeds layout from (role ∷ roles) kinds =
 
 stays_some : {I : Type 0} (name_of : I → List ℕ) (feed : Feed I) (new : Option (Feed I))
     → StaysFeed name_of (Some feed) new → (later : Feed I) × (new ≡ Some later)
-stays_some name_of (Live source) new stays = (Live stays.0, stays.1.0)
-stays_some name_of (Made generator) new stays = (Made stays.0, stays.1.0)
+stays_some name_of (Live source) new stays = (Live stays.0, stays.1)
+stays_some name_of (Made generator) new stays = (Made stays.0, stays.1)
 
 none_left : {I N : Type 0} (roles : List (Role I N))
     → ((r : ℕ) (role : Role I N) → slice_get roles r ≡ Some role → feed_of role ≡ None) → feeds_of roles ≡ []
@@ -123,12 +123,12 @@ module _ {I N : Type 0} (name_of : I → List ℕ) where
   handed_back given roles have few = record {
     many = feeds_many given roles have few;
     stay = λ port. elim (cases_Bool (nat_lt port (length roles))) [
-      | inl yes ↦
-          let at = got_some roles port (ltb-true port (length roles) yes) in
+      | inl under ↦
+          let at = got_some roles port (ltb-true port (length roles) under) in
           subst (StaysFeed name_of (slice_get given port)) (sym (feed_at given roles have port at.0 at.1))
           (have port at.0 at.1)
-      | inr no ↦
-          let past = ltb-false port (length roles) no in
+      | inr over ↦
+          let past = ltb-false port (length roles) over in
           let none : slice_get given port ≡ None = got_none given port (omega (arith, past, few)) in
           let back : slice_get (feeds_of roles) port ≡ None =
           got_none (feeds_of roles) port (omega (arith, past, few, feeds_many given roles have few)) in

@@ -1,5 +1,5 @@
 -- A manager between turns: the board, the first token, and the roles.
-use Rattle.std.specs.Prelude.{ℕ, ◌≡◌, ◌+◌, ◌<◌, Bool, true, List, length, Option, Some, None, slice_get}
+use Rattle.std.specs.Prelude.{ℕ, ◌≡◌, ◌≢◌, ◌+◌, ◌<◌, Bool, true, List, length, Option, Some, None, slice_get}
 use Rattle.onvm_base.specs.declared.plan.Plan.{Plan}
 use Rattle.onvm_core.specs.declared.layout.Layout.{Layout}
 use Rattle.onvm_core.specs.Layouts.{IsLayout, IsLayoutOf, core_role, first_role}
@@ -90,6 +90,14 @@ pub record HasFault {I N : Type 0} (roles : List (Role I N)) (port : ℕ) (fault
   pub at : slice_get roles port ≡ Some role
   pub fault_is : fault_of role ≡ Some fault
   pub lower : (r : ℕ) (other : Role I N) → r < port → slice_get roles r ≡ Some other → ended_in other ≡ true
+
+-- the feed of the role with this number was read to its end, or up to this fault. Other roles are as they were
+pub record IsDrainedAt {I N : Type 0} (at : ℕ) (fault : Option FeedFault) (old new : Manager I N) : Type 0 where
+  pub role : Role I N
+  pub here : slice_get new.roles.items at ≡ Some role
+  pub fault_is : fault_of role ≡ fault
+  pub ended : fault ≡ None → ended_in role ≡ true
+  pub others : (r : ℕ) → r ≢ at → slice_get new.roles.items r ≡ slice_get old.roles.items r
 
 module _ {N : Type 0} (acts : N → Acts) (state : N → Tree) where
   -- the states of all functions

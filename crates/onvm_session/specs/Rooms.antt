@@ -1,5 +1,5 @@
 -- A session before its first turn.
-use Rattle.std.specs.Prelude.{ℕ, ◌≡◌, ◌+◌, ◌≤◌, ◌==◌, if◌then◌else◌, List, [], ◌∷◌, length, Some, Option, slice_get, slice_index_or, Vec, vec_capacity}
+use Rattle.std.specs.Prelude.{ℕ, ◌≡◌, ◌+◌, ◌≤◌, ◌==◌, if◌then◌else◌, List, [], ◌∷◌, ◌++◌, length, Some, Option, slice_get, Vec, vec_capacity}
 use Rattle.std.proofs.Common.{Global}
 use Rattle.onvm_base.specs.declared.function.FunctionPlan.{FunctionPlan}
 use Rattle.onvm_base.specs.declared.plan.Plan.{Plan}
@@ -15,6 +15,7 @@ use Rattle.nf_registry.specs.Places.{residents}
 use Rattle.onvm_promises.specs.Sampling.{is_cost}
 use Rattle.rx_feed.specs.declared.feed.Feed.{Feed}
 use Rattle.rx_feed.specs.Feeds.{IsFreshFeed}
+use Rattle.rx_feed.specs.Rooms.{IsRoom}
 use Rattle.rx_pass.specs.declared.room.RxRoom.{RxRoom}
 use Rattle.rx_pass.specs.Rooms.{IsNewRoom as IsNewReceiverRoom}
 use Rattle.tick_pass.specs.Roles.{IsNewRoom as IsNewTickRoom}
@@ -46,6 +47,16 @@ pub record AreCores (site : BoardView) (plan : Plan) (n : ℕ) (rooms : List Cor
   pub many : length rooms ≡ n
   pub each : (core : ℕ) (room : CoreRoom) → slice_get rooms core ≡ Some room → IsNewCoreRoom site plan core room
 
+-- the memory of their intakes is new
+abbrev pub AreIntakes : List RxRoom → Type 0
+AreIntakes rooms = (port : ℕ) (room : RxRoom) → slice_get rooms port ≡ Some room → IsRoom room.intake
+
+-- each core has a unit for each of its functions
+pub record FitStations {N : Type 0} (rooms : List CoreRoom) (lists : List (Vec N Global)) : Type 0 where
+  pub many : length lists ≡ length rooms
+  pub each : (core : ℕ) (room : CoreRoom) (list : Vec N Global) → slice_get rooms core ≡ Some room
+      → slice_get lists core ≡ Some list → length list.items ≡ length room.stations.items
+
 -- Units
 
 -- of units by function, those of the functions of a core
@@ -61,6 +72,11 @@ pub record HaveRoom {N : Type 0} (plan : Plan) (lists : List (Vec N Global)) : T
   pub none : (core : ℕ) (list : Vec N Global) → slice_get lists core ≡ Some list → list.items ≡ []
   pub room : (core : ℕ) (list : Vec N Global) → slice_get lists core ≡ Some list
       → length (residents core plan.functions) ≤ vec_capacity list
+
+-- a list with one unit more, in the same memory
+pub record IsHandedTo {N : Type 0} (unit : N) (was now : Vec N Global) : Type 0 where
+  pub items : now.items ≡ was.items ++ unit ∷ []
+  pub room : vec_capacity now ≡ vec_capacity was
 
 -- each core has the units of its functions
 pub record AreUnitsOf {N : Type 0} (plan : Plan) (units : List N) (lists : List (Vec N Global)) : Type 0 where
@@ -79,6 +95,11 @@ pub record AreRooms {I N : Type 0} (site : BoardView) (plan : Plan) (rooms : Roo
   pub role_room : plan.ports + plan.transmit + plan.cores + 1 ≤ vec_capacity rooms.roles
   pub feeds : rooms.feeds.items ≡ []
   pub feed_room : plan.ports ≤ vec_capacity rooms.feeds
+
+-- some board of the plan is that of all these rooms
+pub record AreOnBoard {I N : Type 0} (plan : Plan) (rooms : Rooms I N) : Type 0 where
+  pub site : BoardView
+  pub are : AreRooms site plan rooms
 
 pub record IsBeginning {I N : Type 0} (plan : Plan) (beginning : Beginning I N) : Type 0 where
   pub layout_is : beginning.layout ≡ beginning.board.layout
@@ -110,6 +131,12 @@ module _ {I N : Type 0} (name_of : I → List ℕ) (left_of : I → Option (List
     pub unticked : (keeps_of role).ticks ≡ []
     pub fed : IsFed name_of left_of takes_of (slice_get feeds r) role
     pub upto : IsUpTo 0 role
+
+  -- so many roles, which have done nothing
+  pub record AreNewUpTo (site : BoardView) (plan : Plan) (units : List N) (feeds : List (Feed I)) (n : ℕ)
+      (roles : List (Role I N)) : Type 0 where
+    pub many : length roles ≡ n
+    pub each : OfEach (IsNewRole site plan units feeds) roles
 
   pub record AreNewRoles (site : BoardView) (plan : Plan) (units : List N) (feeds : List (Feed I)) (roles : List (Role I N))
       : Type 0 where

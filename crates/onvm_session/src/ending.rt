@@ -21,6 +21,7 @@ use onvm_base::{ListOf, NoMemory, Plan, PortId};
 use onvm_board::Closed;
 use onvm_host::Source;
 use onvm_promises::Pass;
+use rx_feed::FeedFault;
 use std::alloc::Global;
 
 // The run of these lists and this board, where all lists are complete.
@@ -75,23 +76,36 @@ impl<I: Drop> Leavings<I> {
 
 impl<I: Source + Drop, N: NetFunction> Manager<I, N> {
     ghost use Rattle.onvm_session.specs.Leaving.{feeds_of};
-    ghost use Rattle.onvm_session.specs.Managers.{AllGrow, FitsAll, HasFault, IsManager, IsOver, IsUnderway, OfEach, place_now, round_now};
-    ghost use Rattle.onvm_session.specs.RoleStates.{IsUpTo, fault_of};
+    ghost use Rattle.onvm_session.specs.Managers.{AllGrow, FitsAll, HasFault, IsDrainedAt, IsManager, IsOver, IsUnderway, OfEach, place_now, round_now};
+    ghost use Rattle.onvm_session.specs.RoleStates.{HasNoMore, IsUpTo, fault_of};
     ghost use Rattle.onvm_session.specs.declared.role.Role.{Role as RoleView};
+
+    // Reads the capture of a role's port to its end, or up to a fault.
+    fn drain_at(&mut self, alloc: Global, at: usize) -> Result<Option<FeedFault>, NoMemory>
+        requires { at < length self.old.roles.items }
+        ensures told { IfOk result (λ fault. IsDrainedAt at fault self.old self.new) }
+        ensures stopped { (role : RoleView I N) → slice_get self.old.roles.items at ≡ Some role → HasNoMore role
+            → self.new.roles.items ≡ self.old.roles.items }
+        ensures grow { AllGrow I.name I.left I.takes self.old self.new }
+    {
+        self.roles[at].drain(alloc)?;
+        Ok(self.roles[at].fault())
+    }
 
     /// Reads the captures of the ports to their ends, in order, up to the first port that has a fault.
     pub fn find_fault(&mut self, alloc: Global) -> Stop
-        requires { (r : ℕ) × (role : RoleView I N) × (slice_get self.old.roles.items r ≡ Some role)
+        requires fault { (r : ℕ) × (role : RoleView I N) × (slice_get self.old.roles.items r ≡ Some role)
             × IsSome (fault_of role) }
+        requires few { length self.old.roles.items ≤ 255 }
         ensures told { (port : ℕ) (fault : FaultView) → told_fault result ≡ Some (port, fault)
             → HasFault self.new.roles.items port fault }
         ensures grow { AllGrow I.name I.left I.takes self.old self.new }
     {
         for at in 0..self.roles.len() {
-            if self.roles[at].drain(alloc).is_err() {
+            let Ok(fault) = self.drain_at(alloc, at) else {
                 return Stop::Memory;
-            }
-            if let Some(fault) = self.roles[at].fault() {
+            };
+            if let Some(fault) = fault {
                 return stop_of(PortId(at as u8), fault);
             }
         }

@@ -1,5 +1,6 @@
 //! What the roles of a session leave.
 ghost use Rattle.std.specs.Prelude.{◌≡◌, ◌+◌, ◌≤◌, ◌++◌, ◌∷◌, [], length, option_to_list, true, vec_capacity, vec_len};
+ghost use Rattle.onvm_session.specs.RoleStates.{keeps_of};
 
 use crate::lists::Gathered;
 use crate::role::Role;
@@ -20,6 +21,17 @@ pub struct Leavings<I> {
     pub complete: bool,
 }
 
+// How often a core found an output ring full, and how many of its samples were lost. Other roles count
+// neither.
+fn counted<I, N>(role: &Role<I, N>) -> (u64, u64)
+    ensures { (result.0 ≡ (keeps_of role.now).core.yields) × (result.1 ≡ (keeps_of role.now).core.lost) }
+{
+    match role {
+        Role::Handle(core) => (core.yields, core.lost),
+        Role::Receive(_) | Role::Send(_) | Role::Tick(_) => (0, 0),
+    }
+}
+
 impl<I: Drop> Leavings<I> {
     ghost use Rattle.onvm_session.specs.Leaving.{HasLeft, HaveLeft, feeds_of};
 
@@ -30,6 +42,7 @@ impl<I: Drop> Leavings<I> {
         ensures sent { result.gathered.sent.items ≡ [] }
         ensures posts { result.gathered.posts.items ≡ [] }
         ensures yields { (result.gathered.yields ≡ 0) × (result.gathered.lost ≡ 0) }
+        ensures told { (result.samples ≡ []) × (result.ticks ≡ []) }
         ensures complete { result.complete ≡ true }
     {
         Leavings {
@@ -46,6 +59,8 @@ impl<I: Drop> Leavings<I> {
         requires room { vec_len self.old.feeds + length (feeds_of (role ∷ [])) ≤ vec_capacity self.old.feeds }
         ensures left { HasLeft role self.old self.new }
     {
+        let (yields, lost) = counted(&role);
+        self.gathered.add_core(yields, lost);
         match role {
             Role::Receive(role) => {
                 let kept = role.end();
@@ -56,10 +71,7 @@ impl<I: Drop> Leavings<I> {
                 let kept = role.end();
                 self.add_feeder(kept.records, kept.sent, kept.posts);
             }
-            Role::Handle(role) => {
-                let kept = role.end();
-                self.gathered.add_core(kept.yields, kept.lost);
-            }
+            Role::Handle(_role) => {}
             Role::Tick(role) => {
                 let kept = role.end();
                 self.samples = kept.samples;
@@ -80,6 +92,17 @@ impl<I: Drop> Leavings<I> {
     }
 
     fn add_feeder(&mut self, records: Records, sent: SentFrames, posts: Posts)
+        ensures feeds { self.new.feeds ≡ self.old.feeds }
+        ensures complete { self.new.complete ≡ true → self.old.complete ≡ true }
+        ensures records { self.new.complete ≡ true
+            → self.new.gathered.records.items ≡ self.old.gathered.records.items ++ records }
+        ensures sent { self.new.complete ≡ true
+            → self.new.gathered.sent.items ≡ self.old.gathered.sent.items ++ sent }
+        ensures posts { self.new.complete ≡ true
+            → self.new.gathered.posts.items ≡ self.old.gathered.posts.items ++ posts }
+        ensures counts { (self.new.gathered.yields ≡ self.old.gathered.yields)
+            × (self.new.gathered.lost ≡ self.old.gathered.lost) }
+        ensures told { (self.new.samples ≡ self.old.samples) × (self.new.ticks ≡ self.old.ticks) }
     {
         if self.gathered.add_feeder(records, sent, posts).is_err() {
             self.complete = false;

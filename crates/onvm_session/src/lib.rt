@@ -13,6 +13,7 @@ pub mod laws;
 mod leaving;
 mod lists;
 mod manager;
+mod new_roles;
 mod role;
 mod rooms;
 mod run;

@@ -1,5 +1,5 @@
 //! The turns of a session's roles.
-ghost use Rattle.std.specs.Prelude.{◌≡◌, ◌+◌, ◌-◌, ◌<◌, ◌≤◌, ◌↔◌, ◌==◌, if◌then◌else◌, ℕ, IfOk, IsSome, IsTrue, OnErr, OnOk, Err, Option, Some, length, slice_get, true};
+ghost use Rattle.std.specs.Prelude.{◌≡◌, ◌+◌, ◌-◌, ◌^◌, ◌<◌, ◌≤◌, ◌↔◌, ◌==◌, if◌then◌else◌, ℕ, IfOk, IsSome, IsTrue, OnErr, OnOk, Err, Option, Some, length, slice_get, true};
 ghost use Rattle.onvm_core.specs.Layouts.{first_role};
 ghost use Rattle.onvm_core.specs.Potential.{sum_below};
 ghost use Rattle.onvm_promises.specs.Kept.{at_most_64_bits};
@@ -177,11 +177,11 @@ impl<I: Source, N: NetFunction> Manager<I, N> {
         for _ in rt.forever() {
             self.round(alloc, plan, clock, now)?;
             if self.is_over() {
-                break;
+                return Ok(now);
             }
             now = now.saturating_add(1000);
         }
-        Ok(now)
+        unreachable!()
     }
 }
 
@@ -204,7 +204,8 @@ impl<I, N> Manager<I, N> {
     // How many frames were pulled.
     fn pulled(&self) -> u64
         requires { self.now.layout.ports ≤ length self.now.roles.items }
-        ensures { result ≡ sum_below (λ r. pulled_at (slice_get self.now.roles.items r)) self.now.layout.ports }
+        ensures sum { result ≡ sum_below (λ r. pulled_at (slice_get self.now.roles.items r)) self.now.layout.ports }
+        ensures few { result < 2 ^ 63 }
     {
         let mut pulled = 0;
         for at in 0..self.layout.ports as usize {
@@ -234,6 +235,9 @@ impl<I, N> Manager<I, N> {
         requires roles { self.now.layout.ports + self.now.layout.transmit ≤ length self.now.roles.items }
         ensures { IsTrue result ↔ IsOver self.now }
     {
-        self.are_done() && self.pulled() == self.recorded()
+        if !self.are_done() {
+            return false;
+        }
+        self.pulled() == self.recorded()
     }
 }

@@ -136,6 +136,7 @@ impl<I: Source, N> Role<I, N> {
         ensures grows { Grows self.old self.new }
         ensures fed { StaysFed I.name I.left I.takes self.old self.new }
         ensures kept { keeps_of self.new ≡ keeps_of self.old }
+        ensures stopped { HasNoMore self.old → self.new ≡ self.old }
     {
         match self {
             Role::Receive(role) => role.drain(alloc),

@@ -1,10 +1,12 @@
 //! The making of a session's roles.
-ghost use Rattle.std.specs.Prelude.{◌≡◌, ◌+◌, ◌<◌, ◌≤◌, [], IfOk, OnErr, length, vec_capacity};
+ghost use Rattle.std.specs.Prelude.{◌≡◌, ◌≢◌, ◌<◌, ◌≤◌, ℕ, IfOk, Some, Vec, length, slice_get, vec_capacity, vec_len};
+ghost use Rattle.std.proofs.Common.{Global};
 ghost use Rattle.onvm_core.specs.Layouts.{IsLayout, IsLayoutOf, first_role};
-ghost use Rattle.onvm_session.specs.Rooms.{AreCores, AreFresh, AreReceivers, AreSenders, AreUnitsOf, HaveRoom};
+ghost use Rattle.onvm_session.specs.Rooms.{AreCores, AreFresh, AreReceivers, AreSenders, AreUnitsOf, HaveRoom, IsHandedTo};
 ghost use Rattle.onvm_board.specs.Tokens.{BoardView};
 
 use crate::manager::Manager;
+use crate::new_roles::{add_cores, add_receivers, add_senders, add_ticker};
 use crate::role::Role;
 use nf_api::NetFunction;
 use nf_exec::CoreRoom;
@@ -112,13 +114,23 @@ fn hand_out<N: Drop>(lists: &mut Vec<Vec<N>>, plan: &Plan, units: ListOf<N>)
     requires room { HaveRoom plan.now lists.old.items }
     ensures { AreUnitsOf plan.now units lists.new.items }
 {
-    let functions = plan.functions.as_slice();
-    let mut at = 0;
-    for unit in units.into_vec() {
-        let core = functions[at].core as usize;
-        lists[core].push_reserved(unit);
-        at += 1;
+    for (function, unit) in plan.functions.as_slice().iter().zip(units.into_vec()) {
+        hand(lists, usize::from(function.core), unit);
     }
+}
+
+// Hands a core one unit more.
+fn hand<N: Drop>(lists: &mut Vec<Vec<N>>, core: usize, unit: N)
+    requires core { core < length lists.old.items }
+    requires room { (list : Vec N Global) → slice_get lists.old.items core ≡ Some list
+        → vec_len list < vec_capacity list }
+    ensures many { length lists.new.items ≡ length lists.old.items }
+    ensures own { (was now : Vec N Global) → slice_get lists.old.items core ≡ Some was
+        → slice_get lists.new.items core ≡ Some now → IsHandedTo unit was now }
+    ensures others { (other : ℕ) → other ≢ core
+        → slice_get lists.new.items other ≡ slice_get lists.old.items other }
+{
+    lists[core].push_reserved(unit);
 }
 
 impl<I: Source + Drop, N: NetFunction> Beginning<I, N> {
@@ -170,7 +182,7 @@ impl<I: Source + Drop, N: NetFunction> Beginning<I, N> {
 }
 
 impl<I: Source + Drop, N: NetFunction> Rooms<I, N> {
-    ghost use Rattle.onvm_session.specs.Rooms.{AreNewRoles, AreRooms};
+    ghost use Rattle.onvm_session.specs.Rooms.{AreNewRoles, AreOnBoard, AreRooms};
 
     // The rooms of all roles.
     fn make(
@@ -212,8 +224,8 @@ impl<I: Source + Drop, N: NetFunction> Rooms<I, N> {
         units: ListOf<N>,
         feeds: ListOf<Feed<I>>,
     ) -> (Vec<Role<I, N>>, Vec<Feed<I>>)
+        requires rooms { AreOnBoard plan.now self }
         requires units { length units ≡ length plan.now.functions }
-        requires feeds { length feeds ≤ plan.now.ports }
         requires fresh { AreFresh feeds }
         ensures roles { (site : BoardView) → IsLayoutOf plan.now site.layout → IsLayout site.layout
             → AreRooms site plan.now self
@@ -229,20 +241,11 @@ impl<I: Source + Drop, N: NetFunction> Rooms<I, N> {
             mut roles,
             feeds: returned,
         } = self;
-        let mut feeds = feeds.into_vec().into_iter();
-        for room in receivers {
-            roles.push_reserved(Role::Receive(room.start(feeds.next())));
-        }
-        for room in senders {
-            roles.push_reserved(Role::Send(room.start()));
-        }
+        add_receivers(&mut roles, receivers, feeds);
+        add_senders(&mut roles, senders);
         hand_out(&mut lists, plan, units);
-        let mut lists = lists.into_iter();
-        for room in cores {
-            let Some(units) = lists.next() else { unreachable!() };
-            roles.push_reserved(Role::Handle(room.start(ListOf::from_vec(units))));
-        }
-        roles.push_reserved(Role::Tick(ticker.start(0)));
+        add_cores(&mut roles, cores, lists);
+        add_ticker(&mut roles, ticker);
         (roles, returned)
     }
 }

@@ -5,6 +5,7 @@ mod faults;
 mod lists;
 mod marks;
 mod outcomes;
+mod passes;
 mod plans;
 mod ports;
 mod sessions;

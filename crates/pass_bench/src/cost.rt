@@ -1,15 +1,15 @@
-//! The least time that one of many frames or passes took.
+//! Bursts of frames, and the time that one frame takes.
 ghost use Rattle.std.specs.Prelude.{◌<◌};
 
-/// Frames that the board's own steps and transmit passes take between two looks at the clock.
+/// Frames between two looks at the clock.
 pub const BURST: u32 = 64;
 
-/// What frames or passes cost.
+/// What bursts of frames cost.
 #[derive(Clone, Copy, Debug)]
 pub struct Cost {
-    // The least time that one took, in tenths of a nanosecond.
+    // The least time in nanoseconds that one burst took.
     least: u64,
-    // A sum over what came of them. Since it is printed, the compiler can leave out none.
+    // A sum over what came of the frames. Since it is printed, the compiler can leave out none.
     sum: u64,
 }
 
@@ -21,7 +21,7 @@ pub struct Costs {
 }
 
 impl Cost {
-    /// Of none yet.
+    /// Of no burst yet.
     pub fn new() -> Cost {
         Cost {
             least: u64::MAX,
@@ -29,28 +29,33 @@ impl Cost {
         }
     }
 
-    /// So many more, with the nanoseconds that they took together and what came of them.
-    pub fn add(&mut self, count: u32, nanoseconds: u64, sum: u64)
-        requires { 0 < count }
-    {
-        let tenths = nanoseconds.saturating_mul(10) / u64::from(count);
-        self.least = self.least.min(tenths);
+    /// One more burst, with its time in nanoseconds and what came of it.
+    pub fn add(&mut self, nanoseconds: u64, sum: u64) {
+        self.least = self.least.min(nanoseconds);
         self.sum = self.sum.wrapping_add(sum);
     }
 
-    /// Prints the least time of one.
+    /// Prints the time of one frame in the fastest burst.
     pub fn print(&self, rt: &HostRuntime, name: &str) {
+        self.print_of(rt, name, BURST);
+    }
+
+    /// The same of bursts of so many frames.
+    pub fn print_of(&self, rt: &HostRuntime, name: &str, frames: u32)
+        requires { 0 < frames }
+    {
+        let tenths = self.least.saturating_mul(10) / u64::from(frames);
         let _ = println!(rt;
             "{name}: {}.{} ns, sum {}",
-            self.least / 10,
-            self.least % 10,
+            tenths / 10,
+            tenths % 10,
             self.sum
         );
     }
 }
 
 impl Costs {
-    /// Of none yet.
+    /// Of no burst yet.
     pub fn new() -> Costs {
         Costs {
             moved: Cost::new(),

@@ -58,12 +58,7 @@ impl Entrance {
     }
 
     /// So many frames enter. False where one of them can't.
-    pub fn enter_all(
-        &mut self,
-        alloc: Global,
-        board: &Board,
-        frames: u32,
-    ) -> Result<bool, NoMemory>
+    pub fn enter_all(&mut self, alloc: Global, board: &Board, frames: u32) -> Result<bool, NoMemory>
         requires enters { Enters board.now self.old.token self.old.part self.old.lane }
         ensures enters { IfOk result (λ entered. entered ≡ true
             → Enters board.now self.new.token self.new.part self.new.lane) }

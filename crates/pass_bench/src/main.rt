@@ -1,23 +1,26 @@
-//! The program `pass_bench`: measures what passes of transmit roles and cores cost for each frame,
-//! beside the board's own steps, and what passes of the tick role cost.
+//! The program `pass_bench`: measures what passes of roles cost for each frame, beside the board's own
+//! steps and the pulls of frames, and what passes of the tick role cost.
 #![tactic(auto)]
 
-mod cores;
 mod cost;
 mod frames;
+mod handlers;
 mod passes;
 mod plans;
+mod receiving;
 mod roles;
 mod steps;
+mod stock;
 mod ticks;
 
-use cores::measure_cores;
+use handlers::measure_cores;
 use onvm_base::NoMemory;
 use onvm_board::Board;
 use onvm_core::Layout;
 use onvm_host::SysClock;
 use passes::cost_of_passes;
 use plans::plan;
+use receiving::measure_receiving;
 use std::env;
 use std::process::ExitCode;
 use steps::cost_of_steps;
@@ -46,9 +49,10 @@ fn rounds(rt: &HostRuntime) -> Option<u32> {
 
 fn measure_all(rt: &HostRuntime, rounds: u32) -> Result<(), NoMemory> {
     measure(rt, rounds)?;
-    for functions in [1, 4, 16] {
-        measure_cores(rt, functions, rounds)?;
-    }
+    measure_cores(rt, 1, rounds)?;
+    measure_cores(rt, 4, rounds)?;
+    measure_cores(rt, 16, rounds)?;
+    measure_receiving(rt, rounds)?;
     for functions in [2, 8, 32] {
         measure_ticks(rt, functions, rounds)?;
     }
@@ -64,9 +68,7 @@ fn measure(rt: &HostRuntime, rounds: u32) -> Result<(), NoMemory> {
     let passes = cost_of_passes(rt.alloc(), &plan, &board, &mut lead, &clock, rounds)?;
     let (board, mut lead) = Board::make(rt.alloc(), &layout)?;
     let steps = cost_of_steps(rt.alloc(), &plan, &board, &mut lead, &clock, rounds)?;
-    steps
-        .handled
-        .print(rt, "look, pop, crumb and push alone");
+    steps.handled.print(rt, "look, pop, crumb and push alone");
     steps.onward.moved.print(rt, "pop, cursor and push alone");
     passes
         .moved

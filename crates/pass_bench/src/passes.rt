@@ -69,7 +69,7 @@ impl Sender {
         let first = self.pass(board, plan, registry, start);
         let second = self.pass(board, plan, registry, start);
         let time = clock.now().saturating_sub(start);
-        cost.add(BURST, time, first.wrapping_add(second));
+        cost.add(time, first.wrapping_add(second));
     }
 }
 

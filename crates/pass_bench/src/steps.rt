@@ -198,5 +198,5 @@ pub fn cost_of_steps<C: Clock>(
 // One more burst, since this moment.
 fn add<C: Clock>(cost: &mut Cost, clock: &C, start: u64) {
     let time = clock.now().saturating_sub(start);
-    cost.add(BURST, time, u64::from(BURST));
+    cost.add(time, u64::from(BURST));
 }

@@ -3,7 +3,6 @@ ghost use Rattle.std.specs.Prelude.{◌≡◌, ◌<◌, ◌≤◌, false, IfOk};
 ghost use Rattle.tick_pass.specs.Roles.{IsTickRole, latest_of};
 ghost use Rattle.pass_bench.specs.Ticks.{AreMailed};
 
-use crate::cost::Cost;
 use chain_file::read;
 use desc_ring::{Mail, mail_ends};
 use onvm_base::{NoMemory, Plan};
@@ -120,6 +119,41 @@ impl Desk {
     }
 }
 
+// Passes and the least time that one took, in tenths of a nanosecond.
+#[derive(Clone, Copy, Debug)]
+struct Cost {
+    least: u64,
+    // Over what the passes answered. Since it is printed, the compiler can leave out none.
+    sum: u64,
+}
+
+impl Cost {
+    fn new() -> Cost {
+        Cost {
+            least: u64::MAX,
+            sum: 0,
+        }
+    }
+
+    // So many passes more, with the nanoseconds that they took.
+    fn add(&mut self, passes: u32, nanoseconds: u64, sum: u64)
+        requires { 0 < passes }
+    {
+        let tenths = nanoseconds.saturating_mul(10) / u64::from(passes);
+        self.least = self.least.min(tenths);
+        self.sum = self.sum.wrapping_add(sum);
+    }
+
+    fn print(&self, rt: &HostRuntime, functions: u8, name: &str) {
+        let _ = println!(rt;
+            "tick pass of {functions} functions, {name}: {}.{} ns, sum {}",
+            self.least / 10,
+            self.least % 10,
+            self.sum
+        );
+    }
+}
+
 // Of passes that find nothing and make no tick.
 fn idle<C: Clock>(desk: &mut Desk, clock: &C, rounds: u32) -> Cost
     requires mailed { AreMailed desk.old.board desk.old.core desk.old.mails.items }
@@ -168,14 +202,9 @@ fn busy<C: Clock>(desk: &mut Desk, clock: &C, first: u64, step: u64, passes: u32
 pub fn measure_ticks(rt: &HostRuntime, functions: u8, rounds: u32) -> Result<(), NoMemory> {
     let clock = SysClock::make(*rt);
     let mut desk = Desk::open(rt.alloc(), functions)?;
-    let passes = format!(in rt.alloc(); "tick pass of {functions} functions")?;
-    idle(&mut desk, &clock, rounds).print(rt, &format!(in rt.alloc(); "{passes}, idle")?);
-    busy(&mut desk, &clock, 0, 0, rounds)
-        .print(rt, &format!(in rt.alloc(); "{passes}, a sample each")?);
+    idle(&mut desk, &clock, rounds).print(rt, functions, "idle");
+    busy(&mut desk, &clock, 0, 0, rounds).print(rt, functions, "a sample each");
     let mut desk = Desk::open(rt.alloc(), functions)?;
-    busy(&mut desk, &clock, 1000, 1000, rounds).print(
-        rt,
-        &format!(in rt.alloc(); "{passes}, a sample each and a tick")?,
-    );
+    busy(&mut desk, &clock, 1000, 1000, rounds).print(rt, functions, "a sample each and a tick");
     Ok(())
 }

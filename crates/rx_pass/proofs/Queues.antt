@@ -66,6 +66,20 @@ pub queue_less : (pulled earlier rest : List Frame) (frame : Frame) → pulled �
     → pulled ≡ (earlier ++ frame ∷ []) ++ rest
 queue_less pulled earlier rest frame split = split ∙ sym (append_assoc earlier (frame ∷ []) rest)
 
+-- of the frames pulled a burst at most waited, and those that wait no more have their blocks
+pub burst_done : (pulled earlier waiting pulled' waiting' : List Frame) (done burst : ℕ) → pulled ≡ earlier ++ waiting
+    → length pulled - length waiting ≡ done → length waiting ≤ burst → pulled' ≡ pulled → waiting' ≡ []
+    → length pulled' - length waiting' ≤ done + burst
+burst_done pulled earlier waiting pulled' waiting' done burst split was few same none =
+    omega (
+      arith,
+      was,
+      few,
+      longer earlier earlier pulled waiting split,
+      ap (length {A = Frame}) same,
+      ap (length {A = Frame}) none,
+    )
+
 length-entries_from : (plan : Plan) (port : PortId) (done : ℕ) (frames : List Frame)
     → length (entries_from plan port done frames) ≡ length frames
 length-entries_from plan port done [] = refl

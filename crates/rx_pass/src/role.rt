@@ -81,9 +81,10 @@ impl<I: Source> RxRole<I> {
         ensures ended { HasStopped self.old.intake.standing → self.new.intake.standing ≡ self.old.intake.standing }
         ensures stopped { result ≢ Wanting → (result ≡ Stopped) ↔ IsSome self.new.intake.standing.fault }
 
-        // Each frame pulled has its block, but where memory was wanting: then nothing was stepped, and at
-        // most a burst waits.
+        // Each frame pulled has its block, and at most a burst of them has it in this pass, but where memory
+        // was wanting: then nothing was stepped, and at most a burst waits.
         ensures blocks { result ≢ Wanting → waiting_of self.new ≡ [] }
+        ensures burst { done_of self.new ≤ done_of self.old + plan.now.burst }
         ensures unstepped { result ≡ Wanting → token.new ≡ token.old }
         ensures unchanged { result ≡ Wanting → keeps_of self.new ≡ keeps_of self.old }
     {

@@ -91,12 +91,7 @@ impl Feed {
         drop(board.lend(&mut self.token, buf, Some(parcel)));
         if self.lane.push(board, &mut self.token, buf).is_err() {
             let ring = self.lane.spot().ring;
-            drop(give(
-                board,
-                &mut self.token,
-                buf,
-                Outcome::RingFull { ring },
-            ));
+            drop(give(board, &mut self.token, buf, Outcome::RingFull { ring }));
         }
         Ok(())
     }

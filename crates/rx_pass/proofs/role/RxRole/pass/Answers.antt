@@ -1,9 +1,11 @@
 use Rattle.std.proofs.Common.{◌≡◌, ◌∙◌, ◌⊎◌, sym, ap, refl, ℕ, ◌<◌, None, length, arith, rules}
 use Rattle.onvm_promises.specs.Kept.{FeederKeeps, moment_then}
 use Rattle.entry_throttle.specs.Feeders.{FeederView}
+use Rattle.rx_feed.specs.Intakes.{IntakeView}
 use Rattle.rx_feed.specs.Standing.{HasStopped}
 use Rattle.rx_pass.specs.Roles.{done_of, keeps_of, waiting_of}
 use Rattle.rx_pass.proofs.Afterwards.{knows_same, of_order, role_after, to_order}
+use Rattle.rx_pass.proofs.Queues.{burst_done}
 use Rattle.rx_pass.proofs.Passing.{did_promise, idle_promise, noted, order_after, role_same, stopped_promise}
 use Rattle.rx_pass.proofs.Promising.{unstepped, wanting_promise}
 use Rattle.rx_pass.proofs.role.RxRole.pass.Goals as goal
@@ -152,3 +154,30 @@ returns-else-received-eq0-clause-role g c =
     (c.receive_all-received.ensures.same.0 ∙ c.marks_pass.ensures.feeder.role
     ∙ ap (λ (f : FeederView). f.number) c.marks_pass.ensures.same
     ∙ ap (λ (f : FeederView). f.number) c.prepare.ensures.feeder ∙ sym c.requires.role.inlet.feeder.role)
+
+pub returns-then-is_some-clause-burst : goal.returns-then-is_some-clause-burst
+returns-then-is_some-clause-burst g c =
+    let ready = c.prepare.new.self in
+    let queue = c.prepare.ensures.queue c.requires.role.queue in
+    burst_done ready.intake.standing.pulled queue.0 (waiting_of ready) _ _ (done_of c.args.self.now) c.args.plan.now.burst
+    queue.1 c.prepare.ensures.done c.prepare.ensures.few
+    (ap (λ (i : IntakeView _). i.standing.pulled) c.receive_all-received.ensures.intake.0)
+    c.receive_all-received.ensures.empty
+
+pub returns-then-received-eq0-clause-burst : goal.returns-then-received-eq0-clause-burst
+returns-then-received-eq0-clause-burst g c =
+    let ready = c.prepare.new.self in
+    let queue = c.prepare.ensures.queue c.requires.role.queue in
+    burst_done ready.intake.standing.pulled queue.0 (waiting_of ready) _ _ (done_of c.args.self.now) c.args.plan.now.burst
+    queue.1 c.prepare.ensures.done c.prepare.ensures.few
+    (ap (λ (i : IntakeView _). i.standing.pulled) c.receive_all-received.ensures.intake.0)
+    c.receive_all-received.ensures.empty
+
+pub returns-else-received-eq0-clause-burst : goal.returns-else-received-eq0-clause-burst
+returns-else-received-eq0-clause-burst g c =
+    let ready = c.prepare.new.self in
+    let queue = c.prepare.ensures.queue c.requires.role.queue in
+    burst_done ready.intake.standing.pulled queue.0 (waiting_of ready) _ _ (done_of c.args.self.now) c.args.plan.now.burst
+    queue.1 c.prepare.ensures.done c.prepare.ensures.few
+    (ap (λ (i : IntakeView _). i.standing.pulled) c.receive_all-received.ensures.intake.0)
+    c.receive_all-received.ensures.empty

@@ -1,8 +1,7 @@
 use Rattle.std.proofs.Common.{rules, arith, ◌≡◌, ◌∙◌, sym, ap, subst, ◌++◌, ◌∷◌, [], List, length, length-append}
 use Rattle.onvm_base.specs.declared.frame.Frame.{Frame}
-use Rattle.rx_feed.specs.Standing.{HasStopped, Standing}
+use Rattle.rx_feed.specs.Standing.{HasStopped}
 use Rattle.rx_feed.proofs.Feeding.{stays_then}
-use Rattle.rx_pass.specs.Roles.{IsQueue, pulled_of, waiting_of}
 use Rattle.rx_pass.proofs.Queues.{done_same, frames_then, queue_more}
 use Rattle.rx_pass.proofs.role.RxRole.pull.Goals as goal
 
@@ -36,8 +35,7 @@ frames-preserved g c =
           was.feed c.next.ensures.same;
       more = (was.more.0 ++ frame ∷ [], frames_then c.args.self.now.intake.standing.pulled before _ was.more.0 frame was.more.1 grew);
       ended = λ stopped.
-          let none = c.next.ensures.stopped (subst HasStopped (sym (was.ended stopped)) stopped) in
-          let is_none = none.0 in
+          let none = (c.next.ensures.stopped (subst HasStopped (sym (was.ended stopped)) stopped)).0 in
           absurd (search rules);
       flows = was.flows;
       inlet = was.inlet;

@@ -1,5 +1,5 @@
 //! What a core's pass costs for each frame that its functions handle.
-ghost use Rattle.std.specs.Prelude.{◌≡◌, ◌+◌, [], IfOk};
+ghost use Rattle.std.specs.Prelude.{◌≡◌, ◌+◌, ◌*◌, ◌<◌, [], IfOk};
 ghost use Rattle.onvm_core.specs.Layouts.{IsLayout, IsLayoutOf};
 ghost use Rattle.onvm_board.specs.Tokens.{first_token};
 ghost use Rattle.onvm_promises.specs.Sampling.{AreTimed};
@@ -25,6 +25,13 @@ use std::alloc::Global;
 
 // Frames that enter before each pass: as many as a function may handle in one.
 const BURST: u32 = 32;
+
+// How many frames so many functions may handle in one pass.
+fn frames_of(functions: u8) -> u32
+    ensures { result ≡ 32 * functions }
+{
+    BURST * u32::from(functions)
+}
 
 // So many functions on one core, and a chain through all.
 fn chain_file(alloc: Global, functions: u8) -> Result<String, NoMemory> {
@@ -149,7 +156,7 @@ impl<N: NetFunction> Round<N> {
     }
 }
 
-// What a pass costs for each frame, over so many passes.
+// What passes cost in which each function handled as many frames as it may, over so many passes.
 fn cost_of_cores<N: NetFunction, C: Clock>(
     alloc: Global,
     plan: &Plan,
@@ -157,6 +164,7 @@ fn cost_of_cores<N: NetFunction, C: Clock>(
     registry: &Registry,
     clock: &C,
     round: Round<N>,
+    functions: u8,
     passes: u32,
 ) -> Result<Cost, NoMemory>
     requires registry { registry.now ≡ plan.now }
@@ -178,8 +186,8 @@ fn cost_of_cores<N: NetFunction, C: Clock>(
         let start = clock.now();
         let handled = handler.pass(board, plan, clock);
         let time = clock.now().saturating_sub(start);
-        if handled > 0 {
-            cost.add(handled, time, u64::from(handled));
+        if handled == frames_of(functions) {
+            cost.add(time, u64::from(handled));
         }
         let _ = sender.pass(board, plan, registry, start);
     }
@@ -187,7 +195,9 @@ fn cost_of_cores<N: NetFunction, C: Clock>(
 }
 
 /// Prints what a frame costs at a core of so many functions, over so many passes.
-pub fn measure_cores(rt: &HostRuntime, functions: u8, passes: u32) -> Result<(), NoMemory> {
+pub fn measure_cores(rt: &HostRuntime, functions: u8, passes: u32) -> Result<(), NoMemory>
+    requires some { 0 < functions }
+{
     let clock = SysClock::make(*rt);
     let plan = plan(rt.alloc(), functions)?;
     let layout = Layout::of(&plan);
@@ -197,11 +207,26 @@ pub fn measure_cores(rt: &HostRuntime, functions: u8, passes: u32) -> Result<(),
     for _ in 0..functions {
         units.push(Steady::Forward)?;
     }
-    let round = Round::start(rt.alloc(), &board, &layout, &plan, &registry, &mut lead, units)?;
-    let cost = cost_of_cores(rt.alloc(), &plan, &board, &registry, &clock, round, passes)?;
-    cost.print(
-        rt,
-        &format!(in rt.alloc(); "a frame that a core's pass handles, functions {functions}")?,
-    );
+    let round = Round::start(
+        rt.alloc(),
+        &board,
+        &layout,
+        &plan,
+        &registry,
+        &mut lead,
+        units,
+    )?;
+    let cost = cost_of_cores(
+        rt.alloc(),
+        &plan,
+        &board,
+        &registry,
+        &clock,
+        round,
+        functions,
+        passes,
+    )?;
+    let name = format!(in rt.alloc(); "a frame that a core handles, functions {functions}")?;
+    cost.print_of(rt, &name, frames_of(functions));
     Ok(())
 }

@@ -1,0 +1,181 @@
+-- What a session answers that is over, or that a fault stopped.
+use Rattle.std.proofs.Common.{◌≡◌, ◌≢◌, ℕ, ◌<◌, ◌≤◌, true, List, [], ◌++◌, length, refl, sym, ◌∙◌, ap, subst, arith, append-nil, Some, None, Option}
+use Rattle.std.specs.Prelude.{Err, IfErr, IfOk, Ok, Result, slice_get}
+use Rattle.onvm_base.specs.declared.plan.Plan.{Plan}
+use Rattle.onvm_core.specs.declared.entry.Entry.{Entry}
+use Rattle.onvm_core.specs.Layouts.{IsLayoutOf}
+use Rattle.onvm_core.specs.Logs.{Setting, entries_of_port}
+use Rattle.onvm_host.specs.Deeds.{Amounts}
+use Rattle.nf_api.specs.Acts.{Acts}
+use Rattle.nf_api.specs.Tree.{Tree}
+use Rattle.onvm_promises.specs.Entries.{IsRunOf, entries_from}
+use Rattle.onvm_promises.specs.Sampling.{is_cost}
+use Rattle.rx_feed.specs.declared.fault.FeedFault.{FeedFault}
+use Rattle.rx_feed.specs.declared.feed.Feed.{Feed}
+use Rattle.rx_feed.specs.Feeds.{no_standing}
+use Rattle.rx_feed.specs.Standing.{Standing}
+use Rattle.onvm_session.specs.declared.manager.Manager.{Manager}
+use Rattle.onvm_session.specs.declared.role.Role.{Role}
+use Rattle.onvm_session.specs.declared.role.Role.TheVariants.{Receive, Send, Handle, Tick}
+use Rattle.onvm_session.specs.declared.run.Run.{Run}
+use Rattle.onvm_session.specs.declared.run.Stop.{Stop}
+use Rattle.onvm_session.proofs.Beginnings.{new_underway}
+use Rattle.onvm_session.proofs.Growing.{all_earlier, got_below, got_some}
+use Rattle.onvm_session.proofs.HandingBack.{receives_below}
+use Rattle.onvm_session.proofs.Tending.{IsTended, back_again, one_layout, stands_at}
+use Rattle.onvm_session.specs.Accounts.{IsAccounted}
+use Rattle.onvm_session.specs.Leaving.{feeds_of}
+use Rattle.onvm_session.specs.Managers.{AllGrow, FitsAll, GoesOn, HasFault, IsOver, IsUnderway}
+use Rattle.onvm_session.specs.RoleStates.{FitsOne, acts_by, ended_in, fault_of, standing_of, start_by}
+use Rattle.onvm_session.specs.Rooms.{IsNewManager}
+use Rattle.onvm_session.specs.Runs.{AreHandedBack, HasStopped, IsDone, IsStop, StandsWith, any_moment, told_fault, view_of_run}
+
+-- where a port stands
+abbrev pub standing_at : {I N : Type 0} → Option (Role I N) → Standing
+standing_at None = no_standing
+standing_at (Some role) = standing_of role
+
+abbrev pub standings_in : {I N : Type 0} → Manager I N → ℕ → Standing
+standings_in manager port = standing_at (slice_get manager.roles.items port)
+
+module _ {I N : Type 0} (name_of : I → List ℕ) (left_of : I → Option (List ℕ)) (takes_of : I → Amounts) (plan : Plan)
+    (given : List (Feed I)) (manager : Manager I N) (tended : IsTended name_of left_of takes_of plan given manager)
+    (few : length given ≤ plan.ports) where
+  -- A session that is over
+
+  module _ (over : IsOver manager) (setting : Setting)
+      (run : IsRunOf plan (λ port. (standings_in manager port).pulled) setting) where
+    layout_is : setting.layout ≡ manager.board.layout
+    layout_is =
+        one_layout plan setting.layout manager.board.layout
+        (subst (λ (p : Plan). IsLayoutOf p setting.layout) run.plan_is run.setting_is.layout) tended.layout_of
+
+    fits_as : (r : ℕ) (role : Role I N) → slice_get manager.roles.items r ≡ Some role
+        → FitsOne manager.board.layout plan r role setting
+    fits_as r (Receive rx) found =
+        let enter : entries_of_port r setting.entries
+        ≡ entries_from plan (record { 0 = r }) 0 rx.intake.standing.pulled =
+        run.enter r
+        ∙ ap (λ (role : Option (Role I N)). entries_from plan (record { 0 = r }) 0 (standing_at role).pulled) found in
+        record {
+          layout_is = layout_is;
+          plan_is = run.plan_is;
+          front = ([], append-nil (entries_from plan (record { 0 = r }) 0 rx.intake.standing.pulled) ∙ sym enter);
+          all = λ ended. enter;
+        }
+    fits_as r (Send tx) found = (layout_is, run.plan_is)
+    fits_as r (Handle core) found = (layout_is, run.plan_is)
+    fits_as r (Tick tick) found = (layout_is, run.plan_is)
+
+    -- a run of the frames that were pulled is one of these roles
+    pub fits_over : FitsAll plan setting manager
+    fits_over = record {
+      is = run.setting_is;
+      layout_is = layout_is;
+      plan_is = run.plan_is;
+      fits = fits_as;
+    }
+
+  role_at : (port : ℕ) → port < plan.ports → (role : Role I N) × (slice_get manager.roles.items port ≡ Some role)
+  role_at port known = got_some manager.roles.items port (omega (arith, known, tended.many, tended.layout_of.ports))
+
+  pub done : (acts : N → Acts) (state : N → Tree) (units : List N) (first : Manager I N) (run : Run)
+      → IsNewManager name_of left_of takes_of acts state plan units given first
+      → AllGrow name_of left_of takes_of first manager
+      → GoesOn acts state true any_moment is_cost plan first manager
+      → IsOver manager
+      → ((units : List N) (setting : Setting) → FitsAll plan setting manager
+      → IsUnderway acts state true any_moment is_cost 0 units setting manager
+      → IsAccounted true any_moment is_cost (acts_by acts state units) (start_by acts state units) setting
+      (view_of_run run))
+      → IsDone name_of left_of takes_of (acts_by acts state units) (start_by acts state units) plan given
+      (manager.feeds.items ++ feeds_of manager.roles.items) run
+  done acts state units first run new grow on over accounted = record {
+    standings = standings_in manager;
+    stand = λ port known.
+        let at = role_at port known in
+        subst (λ role. StandsWith name_of left_of takes_of given (manager.feeds.items ++ feeds_of manager.roles.items)
+        port (standing_at role)) (sym at.1)
+        (stands_at name_of left_of takes_of plan given manager tended few port at.0 at.1 known);
+    ended = λ port known.
+        let at = role_at port known in
+        ap (λ role. (standing_at role).ended) at.1 ∙ over.ended port at.0 at.1;
+    accounted = λ setting is.
+        let fits = fits_over over setting is in
+        accounted units setting fits
+        (on.on 0 units setting fits
+        (new_underway name_of left_of takes_of acts state plan units given first new setting
+        (all_earlier name_of left_of takes_of plan setting first manager grow fits)));
+  }
+
+  -- A session that a fault stopped
+
+  known_by : (port : ℕ) (role : Role I N) (fault : FeedFault) → slice_get manager.roles.items port ≡ Some role
+      → fault_of role ≡ Some fault → port < plan.ports
+  known_by port (Receive rx) fault found is =
+      let below = receives_below manager.board.layout port (sym (tended.kinds port (Receive rx) found)) in
+      omega (arith, below, tended.layout_of.ports)
+  known_by port (Send tx) fault found is = absurd (cc is)
+  known_by port (Handle core) fault found is = absurd (cc is)
+  known_by port (Tick tick) fault found is = absurd (cc is)
+
+  pub stopped : (port : ℕ) (fault : FeedFault) → HasFault manager.roles.items port fault
+      → HasStopped name_of left_of takes_of plan given (manager.feeds.items ++ feeds_of manager.roles.items) port fault
+  stopped port fault has =
+      let known = known_by port has.role fault has.at has.fault_is in
+      record {
+        known = known;
+        standing = standing_of has.role;
+        stands = stands_at name_of left_of takes_of plan given manager tended few port has.role has.at known;
+        fault_is = has.fault_is;
+        lower = λ p under.
+            let at = role_at p (omega (arith, known, under)) in (
+              standing_of at.0,
+              stands_at name_of left_of takes_of plan given manager tended few p at.0 at.1 (omega (arith, known, under)),
+              has.lower p at.0 under at.1,
+            );
+      }
+
+  -- The same of what is handed back
+
+  pub is_stop : (stop : Stop) (back : List (Feed I)) → back ≡ manager.feeds.items ++ feeds_of manager.roles.items
+      → ((port : ℕ) (fault : FeedFault) → told_fault stop ≡ Some (port, fault)
+      → HasFault manager.roles.items port fault)
+      → IsStop name_of left_of takes_of plan given back stop
+  is_stop stop back is told port fault e =
+      subst (λ (feeds : List (Feed I)). HasStopped name_of left_of takes_of plan given feeds port fault) (sym is)
+      (stopped port fault (told port fault e))
+
+  pub all_done : (acts : N → Acts) (state : N → Tree) (units : List N) (first : Manager I N)
+      (outcome : Result Run Stop) (back : List (Feed I))
+      → IsNewManager name_of left_of takes_of acts state plan units given first
+      → AllGrow name_of left_of takes_of first manager
+      → GoesOn acts state true any_moment is_cost plan first manager
+      → IsOver manager
+      → back ≡ manager.feeds.items ++ feeds_of manager.roles.items
+      → IfOk outcome (λ run. (units : List N) (setting : Setting) → FitsAll plan setting manager
+      → IsUnderway acts state true any_moment is_cost 0 units setting manager
+      → IsAccounted true any_moment is_cost (acts_by acts state units) (start_by acts state units) setting
+      (view_of_run run))
+      → IfOk outcome (λ run. IsDone name_of left_of takes_of (acts_by acts state units) (start_by acts state units) plan
+      given back run)
+  all_done acts state units first (Ok run) back new grow on over is accounted =
+      subst (λ (feeds : List (Feed I)). IsDone name_of left_of takes_of (acts_by acts state units)
+      (start_by acts state units) plan given feeds run) (sym is)
+      (done acts state units first run new grow on over accounted)
+  all_done acts state units first (Err stop) back new grow on over is accounted = accounted
+
+  pub stopped_as : (stop : Stop) (outcome : Result Run Stop) (back : List (Feed I)) → outcome ≡ Err stop
+      → back ≡ manager.feeds.items ++ feeds_of manager.roles.items
+      → ((port : ℕ) (fault : FeedFault) → told_fault stop ≡ Some (port, fault)
+      → HasFault manager.roles.items port fault)
+      → IfErr outcome (λ stop. IsStop name_of left_of takes_of plan given back stop)
+  stopped_as stop outcome back is feeds told =
+      subst (λ (o : Result Run Stop). IfErr o (λ stop. IsStop name_of left_of takes_of plan given back stop)) (sym is)
+      (is_stop stop back feeds told)
+
+  pub back_as : (back : List (Feed I)) → back ≡ manager.feeds.items ++ feeds_of manager.roles.items
+      → AreHandedBack name_of given back
+  back_as back is =
+      subst (λ (feeds : List (Feed I)). AreHandedBack name_of given feeds) (sym is)
+      (back_again name_of left_of takes_of plan given manager tended few)

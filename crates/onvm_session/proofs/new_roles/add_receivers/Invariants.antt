@@ -1,0 +1,23 @@
+use Rattle.std.proofs.Common.{◌≡◌, ◌+◌, ◌≤◌, List, length, vec_capacity, vec_len}
+use Rattle.std.specs.Vec.Iter.{into_iter_items, into_iter_len}
+use Rattle.onvm_base.specs.declared.plan.Plan.{Plan}
+use Rattle.onvm_core.specs.Layouts.{IsLayoutOf}
+use Rattle.onvm_board.specs.Tokens.{BoardView}
+use Rattle.onvm_session.proofs.Draining.{IsLeftBehind, IsTaking}
+use Rattle.onvm_session.specs.Rooms.{AreNewUpTo, AreReceivers}
+use Rattle.onvm_session.proofs.new_roles.add_receivers.Given as goal
+
+abbrev pub invariant-loop-room : goal.invariant-loop-room
+invariant-loop-room g l = record {
+  can_next : (goal.iterator-loop-room g).can_next l.room-iterator;
+  is_finite : (goal.iterator-loop-room g).is_finite l.room-iterator;
+  taking : IsTaking l.fn.rooms.items l.yielded (into_iter_items l.room-iterator) (into_iter_len l.room-iterator);
+  given : IsLeftBehind l.fn.feeds (length l.yielded) (into_iter_items l.given) (into_iter_len l.given);
+  space : vec_len l.roles + into_iter_len l.room-iterator ≤ vec_capacity l.roles;
+  capacity : vec_capacity l.roles ≡ vec_capacity l.initial.roles;
+  many : vec_len l.roles ≡ vec_len l.initial.roles + length l.yielded;
+  new : (site : BoardView) (plan : Plan) (units : List g.row.N.Denot)
+      → IsLayoutOf plan site.layout → AreReceivers site plan plan.ports l.fn.rooms.items
+      → AreNewUpTo g.I.Source.name g.I.Source.left g.I.Source.takes g.N.NetFunction.acts g.N.NetFunction.state
+      site plan units l.fn.feeds (length l.yielded) l.roles.items;
+}

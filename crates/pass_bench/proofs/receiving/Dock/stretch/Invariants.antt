@@ -1,0 +1,5 @@
+use Rattle.pass_bench.specs.Receiving.{IsDock}
+use Rattle.pass_bench.proofs.receiving.Dock.stretch.Given as goal
+
+abbrev pub invariant-loop : goal.invariant-loop
+invariant-loop g l = IsDock l.self
