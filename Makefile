@@ -7,6 +7,7 @@ windows := crates/window_bench/out/window_bench
 board := crates/board_bench/out/board_bench
 flows := crates/flow_bench/out/flow_bench
 passes := crates/pass_bench/out/pass_bench
+sessions := crates/session_bench/out/session_bench
 sources := crates.txt $(shell find crates -name out -prune -o -type f '(' -name '*.rt' -o -name '*.antt' ')' -print)
 
 .PHONY: help test run bench build
@@ -16,7 +17,7 @@ help:
 	@echo 'make run     replays the first example, and prints what was emitted'
 	@echo "make test    the merge gate: every proof, test and must-fail edit, then the repository's own checks"
 	@echo 'make bench   the program beside other ones that copy captures, what functions cost per frame,'
-	@echo '             and what windows of samples, the board, rules and passes cost; never part of a test'
+	@echo '             and what windows of samples, the board, rules, passes and sessions cost; never part of a test'
 
 # The last line adds up what passed and what failed, also where a step failed and ended the rest.
 test:
@@ -28,13 +29,14 @@ test:
 run: $(program)
 	@sh checks/show.sh examples/01-one-frame
 
-bench: $(program) $(functions) $(windows) $(board) $(flows) $(passes)
+bench: $(program) $(functions) $(windows) $(board) $(flows) $(passes) $(sessions)
 	@python3 bench/replay.py
 	@$(functions) 1000
 	@$(windows) 1000
 	@$(board) 400
 	@$(flows) 1000
 	@$(passes) 1000
+	@$(sessions) 10
 
 build: $(program)
 
@@ -55,3 +57,6 @@ $(flows): $(sources)
 
 $(passes): $(sources)
 	@sh build.sh pass_bench
+
+$(sessions): $(sources)
+	@sh build.sh session_bench

@@ -1,4 +1,6 @@
 //! Captures in memory.
+ghost use Rattle.std.specs.Prelude.{IfOk, Some};
+ghost use Rattle.rx_feed.specs.Feeds.{IsFreshFeed};
 
 use onvm_base::{ListOf, NoMemory, Text};
 use onvm_host::{Host, HostFault, MemFile, MemFiles, MemHost, MemInput, have_distinct_names};
@@ -37,7 +39,9 @@ pub fn cut(alloc: Global, frames: &[[u8; 16]]) -> Result<Vec<u8>, NoMemory> {
 }
 
 /// A feed of these bytes. Those of its takes fail whose numbers, from 1, are listed.
-pub fn feed_of(alloc: Global, bytes: &[u8], fail: &[u64]) -> Result<Feed<MemInput>, Fail> {
+pub fn feed_of(alloc: Global, bytes: &[u8], fail: &[u64]) -> Result<Feed<MemInput>, Fail>
+    ensures fresh { IfOk result (λ feed. IsFreshFeed (Some feed)) }
+{
     let mut files = MemFiles::make(alloc);
     files.push(MemFile {
         name: Text::from_slice(alloc, b"k")?,

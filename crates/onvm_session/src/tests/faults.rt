@@ -2,9 +2,8 @@
 
 use super::captures::{FRAME, capture, cut, feed_of};
 use super::plans::{FORWARD, TWO_PORTS, one_function};
-use super::sessions::{end_of, one};
-use crate::{Ended, Stop, session};
-use chain_file::read;
+use super::sessions::{add, end_of, end_with, none, one, plan_of};
+use crate::{Ended, Stop};
 use nf_api::{Meta, NetFunction};
 use onvm_base::{ListOf, NoMemory, Packet, PortId, Verdict};
 use onvm_host::{MemInput, Source};
@@ -65,9 +64,9 @@ fn the_lowest_port_with_a_fault_is_told(rt: HostRuntime) -> Result<(), Fail> {
         ),
     ];
     for (zero, one, stop) in &rows {
-        let mut feeds = ListOf::make(alloc);
-        feeds.push(feed_of(alloc, zero, &[])?)?;
-        feeds.push(feed_of(alloc, one, &[])?)?;
+        let mut feeds = none(alloc);
+        add(&mut feeds, feed_of(alloc, zero, &[])?)?;
+        add(&mut feeds, feed_of(alloc, one, &[])?)?;
         let Ended { outcome, mut feeds } = end_of(&rt, alloc, TWO_PORTS, feeds)?;
         assert_eq!(rt; outcome.err(), *stop);
         assert_eq!(rt; feeds.len(), 2);
@@ -79,9 +78,12 @@ fn the_lowest_port_with_a_fault_is_told(rt: HostRuntime) -> Result<(), Fail> {
 #[test]
 fn a_failed_take_stops_its_port(rt: HostRuntime) -> Result<(), Fail> {
     let alloc = rt.alloc();
-    let mut feeds = ListOf::make(alloc);
-    feeds.push(Feed::Made(Generator::make(7, 100)))?;
-    feeds.push(feed_of(alloc, &capture(alloc, &[FRAME])?, &[1])?)?;
+    let mut feeds = none(alloc);
+    add(&mut feeds, Feed::Made(Generator::make(7, 100)))?;
+    add(
+        &mut feeds,
+        feed_of(alloc, &capture(alloc, &[FRAME])?, &[1])?,
+    )?;
     let Ended { outcome, feeds } = end_of(&rt, alloc, TWO_PORTS, feeds)?;
     assert_eq!(rt; outcome.err(), Some(Stop::Read { port: PortId(1) }));
     assert_eq!(rt; feeds.len(), 2);
@@ -95,7 +97,7 @@ fn a_failed_take_stops_its_port(rt: HostRuntime) -> Result<(), Fail> {
 struct Wants;
 
 impl NetFunction for Wants {
-    ghost use Rattle.std.specs.Prelude.{⊤, ⊥};
+    ghost use Rattle.std.specs.Prelude.{⊥};
     ghost use Rattle.nf_api.specs.Tree.{nothing};
 
     ghost state = { λ function. nothing };
@@ -111,14 +113,11 @@ impl NetFunction for Wants {
 fn a_function_that_wants_memory_stops_the_session(rt: HostRuntime) -> Result<(), Fail> {
     let alloc = rt.alloc();
     let file = one_function(alloc, "", FORWARD)?;
-    let plan = read(alloc, file.as_bytes(), 1, &[])?;
+    let plan = plan_of(alloc, &file)?;
     let mut units = ListOf::make(alloc);
     units.push(Wants)?;
-    if units.len() != plan.functions.len() {
-        return Err(Fail::from("more functions than one"));
-    }
     let feeds = one(alloc, Feed::Made(Generator::make(7, 100)))?;
-    let Ended { outcome, feeds } = session(&rt, alloc, &plan, units, feeds);
+    let Ended { outcome, feeds } = end_with(&rt, alloc, &plan, units, feeds)?;
     assert_eq!(rt; outcome.err(), Some(Stop::Memory));
     assert_eq!(rt; feeds.len(), 1);
     assert!(rt; matches!(feeds.get(0), Some(Feed::Made(made)) if made.given() == 32));

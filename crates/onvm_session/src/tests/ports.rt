@@ -1,11 +1,9 @@
 //! Sessions of several ports, and of made frames.
-ghost use Rattle.onvm_session.specs.Rooms.{AreFresh};
 
 use super::captures::{FRAME, capture, feed_of};
 use super::plans::{FORWARD, FOUR_PORTS, LONG_CHAIN, TWO_PORTS, one_function};
-use super::sessions::{line, one, record, run_of, sent};
-use crate::Run;
-use onvm_base::{ListOf, Outcome, Record};
+use super::sessions::{add, line, none, one, record, run_of, sent};
+use onvm_base::{Outcome, Record};
 use rx_feed::{Feed, Generator};
 use std::test::Fail;
 
@@ -51,9 +49,9 @@ fn a_hundred_thousand_made_frames_are_sent(rt: HostRuntime) -> Result<(), Fail> 
 // each next one a round later.
 #[test]
 fn two_ports_share_a_long_chain(rt: HostRuntime) -> Result<(), Fail> {
-    let mut feeds = ListOf::make(rt.alloc());
-    feeds.push(Feed::Made(Generator::make(1, 1000)))?;
-    feeds.push(Feed::Made(Generator::make(2, 1000)))?;
+    let mut feeds = none(rt.alloc());
+    add(&mut feeds, Feed::Made(Generator::make(1, 1000)))?;
+    add(&mut feeds, Feed::Made(Generator::make(2, 1000)))?;
     let run = run_of(&rt, rt.alloc(), LONG_CHAIN, feeds)?;
     assert_eq!(rt; (run.records.len(), run.sent.len()), (2000, 2000));
     assert!(rt; are_sent(run.records.as_slice(), 0, 1000));
@@ -72,13 +70,13 @@ fn two_ports_share_a_long_chain(rt: HostRuntime) -> Result<(), Fail> {
 // Port 2's frame meets both functions, in rounds 0 and 1.
 #[test]
 fn four_ports_have_chains_of_their_own(rt: HostRuntime) -> Result<(), Fail> {
-    let mut feeds = ListOf::make(rt.alloc());
+    let mut feeds = none(rt.alloc());
     let two = capture(rt.alloc(), &[FRAME, FRAME])?;
     let single = capture(rt.alloc(), &[FRAME])?;
-    feeds.push(feed_of(rt.alloc(), &two, &[])?)?;
-    feeds.push(Feed::Made(Generator::make(7, 3)))?;
-    feeds.push(feed_of(rt.alloc(), &single, &[])?)?;
-    feeds.push(feed_of(rt.alloc(), &single, &[])?)?;
+    add(&mut feeds, feed_of(rt.alloc(), &two, &[])?)?;
+    add(&mut feeds, Feed::Made(Generator::make(7, 3)))?;
+    add(&mut feeds, feed_of(rt.alloc(), &single, &[])?)?;
+    add(&mut feeds, feed_of(rt.alloc(), &single, &[])?)?;
     let run = run_of(&rt, rt.alloc(), FOUR_PORTS, feeds)?;
     let records = [
         sent(1),

@@ -1,4 +1,7 @@
 //! Sessions of chain files, and what is told of them.
+ghost use Rattle.std.specs.Prelude.{[], IfOk, OnOk, Some};
+ghost use Rattle.chain_file.specs.Guests.{HaveGuests};
+ghost use Rattle.rx_feed.specs.Feeds.{IsFreshFeed};
 ghost use Rattle.onvm_session.specs.Rooms.{AreFresh};
 
 use super::captures::{FRAME, capture, feed_of};
@@ -6,8 +9,9 @@ use super::plans::one_function;
 use crate::{Ended, Feeds, Run, session};
 use chain_file::read;
 use load_estimate::{Share, TickLine};
+use nf_api::NetFunction;
 use nf_catalog::units;
-use onvm_base::{FnId, FrameId, ListOf, Outcome, PortId, Post, Record};
+use onvm_base::{FnId, FrameId, ListOf, NoMemory, Outcome, Plan, PortId, Post, Record};
 use onvm_host::MemInput;
 use rx_feed::Feed;
 use std::alloc::Global;
@@ -63,11 +67,57 @@ pub const IDLE: TickLine = TickLine {
     weight: 1024,
 };
 
-/// One feed.
-pub fn one(alloc: Global, feed: Feed<MemInput>) -> Result<Feeds<MemInput>, Fail> {
-    let mut feeds = ListOf::make(alloc);
+/// No feed.
+pub fn none(alloc: Global) -> Feeds<MemInput>
+    ensures fresh { AreFresh result }
+{
+    ListOf::make(alloc)
+}
+
+/// Adds the feed of the next port.
+pub fn add(feeds: &mut Feeds<MemInput>, feed: Feed<MemInput>) -> Result<(), NoMemory>
+    requires fresh { AreFresh feeds.old }
+    requires feed { IsFreshFeed (Some feed) }
+    ensures fresh { OnOk result (AreFresh feeds.new) }
+{
     feeds.push(feed)?;
+    Ok(())
+}
+
+/// One feed.
+pub fn one(alloc: Global, feed: Feed<MemInput>) -> Result<Feeds<MemInput>, NoMemory>
+    requires feed { IsFreshFeed (Some feed) }
+    ensures fresh { IfOk result (λ feeds. AreFresh feeds) }
+{
+    let mut feeds = none(alloc);
+    add(&mut feeds, feed)?;
     Ok(feeds)
+}
+
+/// What comes of a session of a plan with these functions.
+pub fn end_with<R: Wait, N: NetFunction>(
+    rt: &R,
+    alloc: Global,
+    plan: &Plan,
+    units: ListOf<N>,
+    feeds: Feeds<MemInput>,
+) -> Result<Ended<MemInput>, Fail>
+    requires fresh { AreFresh feeds }
+{
+    if units.len() != plan.functions.len() {
+        return Err(Fail::from("not a unit for each function"));
+    }
+    if feeds.len() > usize::from(plan.ports) {
+        return Err(Fail::from("more feeds than ports"));
+    }
+    Ok(session(rt, alloc, plan, units, feeds))
+}
+
+/// The plan of a chain file.
+pub fn plan_of(alloc: Global, file: &str) -> Result<Plan, Fail>
+    ensures guests { IfOk result (λ plan. HaveGuests [] plan.functions) }
+{
+    Ok(read(alloc, file.as_bytes(), 1, &[])?)
 }
 
 /// What comes of a session of a chain file.
@@ -79,12 +129,9 @@ pub fn end_of<R: Wait>(
 ) -> Result<Ended<MemInput>, Fail>
     requires fresh { AreFresh feeds }
 {
-    let plan = read(alloc, file.as_bytes(), 1, &[])?;
-    if feeds.len() > usize::from(plan.ports) {
-        return Err(Fail::from("more feeds than ports"));
-    }
+    let plan = plan_of(alloc, file)?;
     let units = units(alloc, &plan, Vec::new(alloc))?;
-    Ok(session(rt, alloc, &plan, units, feeds))
+    end_with(rt, alloc, &plan, units, feeds)
 }
 
 /// The run of a session of a chain file, which hands back each feed and each buffer.
