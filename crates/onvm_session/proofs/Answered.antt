@@ -1,6 +1,8 @@
 -- What a session answers that is over, or that a fault stopped.
-use Rattle.std.proofs.Common.{◌≡◌, ℕ, ◌<◌, ◌≤◌, true, List, [], ◌++◌, length, sym, ◌∙◌, ap, subst, arith, append-nil, Some, None, Option}
-use Rattle.std.specs.Prelude.{Err, IfErr, IfOk, Ok, Result, slice_get}
+use Rattle.std.proofs.Common.{◌≡◌, ℕ, ◌<◌, ◌≤◌, true, inl, inr, List, [], ◌++◌, length, refl, sym, ◌∙◌, ap, subst, arith, append-nil, Some, None, Option}
+use Rattle.std.specs.Prelude.{Err, IfErr, IfOk, Ok, Result, nat_lt, slice_get}
+use Rattle.std.proofs.lemmas.Bool.{cases_Bool, ltb-false, ltb-true}
+use Rattle.onvm_base.specs.declared.limits.TheConstants.{MAX_PORT_FRAMES}
 use Rattle.onvm_base.specs.declared.plan.Plan.{Plan}
 use Rattle.onvm_core.specs.Layouts.{IsLayoutOf}
 use Rattle.onvm_core.specs.Logs.{Setting, entries_of_port}
@@ -11,7 +13,9 @@ use Rattle.onvm_promises.specs.Entries.{IsRunOf, entries_from}
 use Rattle.onvm_promises.specs.Sampling.{is_cost}
 use Rattle.rx_feed.specs.declared.fault.FeedFault.{FeedFault}
 use Rattle.rx_feed.specs.declared.feed.Feed.{Feed}
-use Rattle.rx_feed.specs.Feeds.{no_standing}
+use Rattle.rx_feed.specs.declared.feed.Feed.TheVariants.{Live, Made}
+use Rattle.rx_feed.proofs.Making.{length-made_frames}
+use Rattle.rx_feed.specs.Feeds.{IsPulledOf, no_standing}
 use Rattle.rx_feed.specs.Standing.{Standing}
 use Rattle.onvm_session.specs.declared.manager.Manager.{Manager}
 use Rattle.onvm_session.specs.declared.role.Role.{Role}
@@ -19,8 +23,9 @@ use Rattle.onvm_session.specs.declared.role.Role.TheVariants.{Receive, Send, Han
 use Rattle.onvm_session.specs.declared.run.Run.{Run}
 use Rattle.onvm_session.specs.declared.run.Stop.{Stop}
 use Rattle.onvm_session.proofs.Beginnings.{new_underway}
-use Rattle.onvm_session.proofs.Growing.{all_earlier, got_some}
+use Rattle.onvm_session.proofs.Growing.{all_earlier, got_none, got_some}
 use Rattle.onvm_session.proofs.HandingBack.{receives_below}
+use Rattle.onvm_session.proofs.OwnRuns.{own_run, own_run_is}
 use Rattle.onvm_session.proofs.Tending.{IsTended, back_again, one_layout, stands_at}
 use Rattle.onvm_session.specs.Accounts.{IsAccounted}
 use Rattle.onvm_session.specs.Leaving.{feeds_of}
@@ -36,6 +41,14 @@ standing_at (Some role) = standing_of role
 
 abbrev pub standings_in : {I N : Type 0} → Manager I N → ℕ → Standing
 standings_in manager port = standing_at (slice_get manager.roles.items port)
+
+few_pulled : {I : Type 0} (feed : Option (Feed I)) (standing : Standing) → IsPulledOf feed standing
+    → length standing.pulled ≤ MAX_PORT_FRAMES
+few_pulled None standing is = let none = ap (λ (s : Standing). length s.pulled) is in omega (arith, none)
+few_pulled (Some (Live source)) standing is = is.within.few
+few_pulled (Some (Made g)) standing is =
+    let made = ap (λ (s : Standing). length s.pulled) is.0 in
+    omega (arith, made, length-made_frames g.seed g.given, is.2, is.3)
 
 module _ {I N : Type 0} (name_of : I → List ℕ) (left_of : I → Option (List ℕ)) (takes_of : I → Amounts) (plan : Plan)
     (given : List (Feed I)) (manager : Manager I N) (tended : IsTended name_of left_of takes_of plan given manager)
@@ -75,6 +88,46 @@ module _ {I N : Type 0} (name_of : I → List ℕ) (left_of : I → Option (List
       fits = fits_as;
     }
 
+  -- The frames that were pulled
+
+  few_of : (port : ℕ) (role : Role I N) → slice_get manager.roles.items port ≡ Some role
+      → length (standing_of role).pulled ≤ MAX_PORT_FRAMES
+  few_of port (Receive rx) found =
+      few_pulled rx.intake.feed rx.intake.standing (tended.fed port (Receive rx) found).pulled
+  few_of port (Send tx) found = omega arith
+  few_of port (Handle core) found = omega arith
+  few_of port (Tick tick) found = omega arith
+
+  none_of : (port : ℕ) (role : Role I N) → slice_get manager.roles.items port ≡ Some role
+      → manager.board.layout.ports ≤ port → (standing_of role).pulled ≡ []
+  none_of port (Receive rx) found past =
+      let below = receives_below manager.board.layout port (sym (tended.kinds port (Receive rx) found)) in
+      absurd (omega (arith, below, past))
+  none_of port (Send tx) found past = refl
+  none_of port (Handle core) found past = refl
+  none_of port (Tick tick) found past = refl
+
+  few_at : (port : ℕ) → length (standings_in manager port).pulled ≤ MAX_PORT_FRAMES
+  few_at port = elim (cases_Bool (nat_lt port (length manager.roles.items))) [
+    | inl under ↦
+        let at = got_some manager.roles.items port (ltb-true port (length manager.roles.items) under) in
+        subst (λ (role : Option (Role I N)). length (standing_at role).pulled ≤ MAX_PORT_FRAMES) (sym at.1)
+        (few_of port at.0 at.1)
+    | inr over ↦
+        let none = got_none manager.roles.items port (ltb-false port (length manager.roles.items) over) in
+        subst (λ (role : Option (Role I N)). length (standing_at role).pulled ≤ MAX_PORT_FRAMES) (sym none) (omega arith)
+  ]
+
+  none_at : (port : ℕ) → manager.board.layout.ports ≤ port → (standings_in manager port).pulled ≡ []
+  none_at port past = elim (cases_Bool (nat_lt port (length manager.roles.items))) [
+    | inl under ↦
+        let at = got_some manager.roles.items port (ltb-true port (length manager.roles.items) under) in
+        ap (λ (role : Option (Role I N)). (standing_at role).pulled) at.1 ∙ none_of port at.0 at.1 past
+    | inr over ↦
+        ap (λ (role : Option (Role I N)). (standing_at role).pulled)
+        (got_none manager.roles.items port (ltb-false port (length manager.roles.items) over))
+  ]
+
   role_at : (port : ℕ) → port < plan.ports → (role : Role I N) × (slice_get manager.roles.items port ≡ Some role)
   role_at port known = got_some manager.roles.items port (omega (arith, known, tended.many, tended.layout_of.ports))
 
@@ -99,6 +152,10 @@ module _ {I N : Type 0} (name_of : I → List ℕ) (left_of : I → Option (List
     ended = λ port known.
         let at = role_at port known in
         ap (λ role. (standing_at role).ended) at.1 ∙ over.ended port at.0 at.1;
+    run_is = (
+      own_run manager.board.layout plan (λ port. (standings_in manager port).pulled),
+      own_run_is manager.board.layout plan (λ port. (standings_in manager port).pulled) tended.layout_of none_at few_at,
+    );
     accounted = λ setting is.
         let fits = fits_over over setting is in
         accounted units setting fits

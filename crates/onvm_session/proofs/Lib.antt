@@ -37,6 +37,7 @@ pub mod OverloadSend
 pub mod OverloadSession
 pub mod OverloadSteps
 pub mod OverloadTick
+pub mod OwnRuns
 pub mod Passing
 pub mod Peeling
 pub mod Phasing

@@ -61,6 +61,8 @@ module _ {I : Type 0} (name_of : I → List ℕ) (left_of : I → Option (List �
     pub standings : ℕ → Standing
     pub stand : (port : ℕ) → port < plan.ports → StandsWith feeds back port (standings port)
     pub ended : (port : ℕ) → port < plan.ports → (standings port).ended ≡ true
+    -- the frames make a run, and of each run that they make
+    pub run_is : (setting : Setting) × IsRunOf plan (λ port. (standings port).pulled) setting
     pub accounted : (setting : Setting) → IsRunOf plan (λ port. (standings port).pulled) setting
         → IsAccounted true any_moment is_cost acts start setting (view_of_run run)
 
