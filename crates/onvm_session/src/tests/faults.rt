@@ -97,7 +97,6 @@ fn a_failed_take_stops_its_port(rt: HostRuntime) -> Result<(), Fail> {
 struct Wants;
 
 impl NetFunction for Wants {
-    ghost use Rattle.std.specs.Prelude.{⊥};
     ghost use Rattle.nf_api.specs.Tree.{nothing};
 
     ghost state = { λ function. nothing };

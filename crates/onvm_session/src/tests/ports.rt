@@ -10,10 +10,10 @@ use std::test::Fail;
 // Whether the frames of a port, from 1 to a count, were sent in order by port 0, beginning at this
 // record.
 fn are_sent(records: &[Record], port: u8, frames: u32) -> bool {
-    let mut number = 0;
+    let mut number: u32 = 0;
     for told in records {
         if told.frame.port.0 == port {
-            number += 1;
+            number = number.saturating_add(1);
             if *told != record(port, number, Outcome::Sent(0)) {
                 return false;
             }

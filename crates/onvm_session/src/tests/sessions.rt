@@ -1,6 +1,6 @@
 //! Sessions of chain files, and what is told of them.
-ghost use Rattle.std.specs.Prelude.{[], IfOk, OnOk, Some};
-ghost use Rattle.chain_file.specs.Guests.{HaveGuests};
+ghost use Rattle.std.specs.Prelude.{◌≡◌, [], IfOk, OnOk, Some, false};
+ghost use Rattle.chain_file.specs.Guests.{HasGuest, HaveGuests};
 ghost use Rattle.rx_feed.specs.Feeds.{IsFreshFeed};
 ghost use Rattle.onvm_session.specs.Rooms.{AreFresh};
 
@@ -11,7 +11,9 @@ use chain_file::read;
 use load_estimate::{Share, TickLine};
 use nf_api::NetFunction;
 use nf_catalog::units;
-use onvm_base::{FnId, FrameId, ListOf, NoMemory, Outcome, Plan, PortId, Post, Record};
+use onvm_base::{
+    FnId, FrameId, FunctionPlan, Kind, ListOf, NoMemory, Outcome, Plan, PortId, Post, Record,
+};
 use onvm_host::MemInput;
 use rx_feed::Feed;
 use std::alloc::Global;
@@ -113,11 +115,33 @@ pub fn end_with<R: Wait, N: NetFunction>(
     Ok(session(rt, alloc, plan, units, feeds))
 }
 
-/// The plan of a chain file.
+fn is_guest(kind: &Kind) -> bool
+    ensures { result ≡ false → HasGuest [] kind.now }
+{
+    matches!(kind, Kind::Guest { .. })
+}
+
+// Whether a function is a guest.
+fn name_guests(functions: &[FunctionPlan]) -> bool
+    ensures { result ≡ false → HaveGuests [] functions.now }
+{
+    for at in 0..functions.len() {
+        if is_guest(&functions[at].kind) {
+            return true;
+        }
+    }
+    false
+}
+
+/// The plan of a chain file without guests.
 pub fn plan_of(alloc: Global, file: &str) -> Result<Plan, Fail>
     ensures guests { IfOk result (λ plan. HaveGuests [] plan.functions) }
 {
-    Ok(read(alloc, file.as_bytes(), 1, &[])?)
+    let plan = read(alloc, file.as_bytes(), 1, &[])?;
+    if name_guests(plan.functions.as_slice()) {
+        return Err(Fail::from("a function that is a guest"));
+    }
+    Ok(plan)
 }
 
 /// What comes of a session of a chain file.
