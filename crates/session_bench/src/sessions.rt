@@ -1,6 +1,6 @@
 //! Sessions with a clock beside them.
-ghost use Rattle.std.specs.Prelude.{◌≡◌, [], IfOk, Some, length};
-ghost use Rattle.chain_file.specs.Guests.{HaveGuests};
+ghost use Rattle.std.specs.Prelude.{◌≡◌, [], IfOk, Some, false, length};
+ghost use Rattle.chain_file.specs.Guests.{HasGuest, HaveGuests};
 ghost use Rattle.rx_feed.specs.Feeds.{IsFreshFeed};
 ghost use Rattle.onvm_session.specs.Rooms.{AreFresh};
 
@@ -9,7 +9,7 @@ use crate::chain_texts::text_of;
 use crate::cost::Cost;
 use chain_file::read;
 use nf_catalog::units;
-use onvm_base::{ListOf, MAX_PORT_FRAMES, NoMemory, Plan};
+use onvm_base::{FunctionPlan, Kind, ListOf, MAX_PORT_FRAMES, NoMemory, Plan};
 use onvm_host::{Clock, MemInput, SysClock};
 use onvm_session::{Feeds, session};
 use rx_feed::{Feed, Generator};
@@ -19,14 +19,35 @@ use std::sync::Wait;
 // How many frames a port takes.
 const FRAMES: u32 = MAX_PORT_FRAMES as u32;
 
+fn is_guest(kind: &Kind) -> bool
+    ensures { result ≡ false → HasGuest [] kind.now }
+{
+    matches!(kind, Kind::Guest { .. })
+}
+
+// Whether a function is a guest.
+fn name_guests(functions: &[FunctionPlan]) -> bool
+    ensures { result ≡ false → HaveGuests [] functions.now }
+{
+    for at in 0..functions.len() {
+        if is_guest(&functions[at].kind) {
+            return true;
+        }
+    }
+    false
+}
+
 fn plan(alloc: Global, functions: u8) -> Result<Plan, NoMemory>
     ensures guests { IfOk result (λ plan. HaveGuests [] plan.functions) }
 {
     let text = text_of(alloc, functions)?;
-    match read(alloc, text.as_bytes(), 1, &[]) {
-        Ok(plan) => Ok(plan),
-        Err(_) => Err(NoMemory),
+    let Ok(plan) = read(alloc, text.as_bytes(), 1, &[]) else {
+        return Err(NoMemory);
+    };
+    if name_guests(plan.functions.as_slice()) {
+        return Err(NoMemory);
     }
+    Ok(plan)
 }
 
 // The feed of the one port.
