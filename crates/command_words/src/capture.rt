@@ -1,5 +1,5 @@
 //! A capture, as a word names it.
-ghost use Rattle.std.specs.Prelude.{◌≡◌, ◌<◌, ◌^◌, ◌++◌, ℕ, IfNone, IfSome, codes, decimal};
+ghost use Rattle.std.specs.Prelude.{◌≡◌, ◌<◌, ◌≤◌, ◌^◌,  ◌++◌, ℕ, IfNone, IfSome, codes, decimal};
 ghost use Rattle.command_words.specs.Commands.{IsCapture, word_of};
 ghost use Rattle.command_words.specs.declared.capture.CaptureWord.{CaptureWord as Capture};
 
@@ -35,9 +35,15 @@ fn generated<'a>(made: &str) -> Option<CaptureWord<'a>>
     ensures none { IfNone result ((seed count : ℕ) → seed < 2 ^ 64 → count ≤ MAX_PORT_FRAMES
         → ¬ (made.now ≡ decimal seed ++ codes ":" ++ decimal count)) }
 {
-    let (seed, count) = made.split_once(':')?;
-    let seed = number(seed)?;
-    let count = number(count)?;
+    let Some((seed, count)) = made.split_once(':') else {
+        return None;
+    };
+    let Some(seed) = number(seed) else {
+        return None;
+    };
+    let Some(count) = number(count) else {
+        return None;
+    };
     if count > MAX_PORT_FRAMES as u64 {
         return None;
     }
@@ -49,10 +55,12 @@ fn generated<'a>(made: &str) -> Option<CaptureWord<'a>>
 
 // A number that is written as it would be printed: without sign or leading zero.
 fn number(text: &str) -> Option<u64>
-    ensures some { IfSome result (λ n. text.now ≡ decimal n) }
+    ensures some { IfSome result (λ n. (text.now ≡ decimal n) × (n < 2 ^ 64)) }
     ensures none { IfNone result ((n : ℕ) → n < 2 ^ 64 → ¬ (text.now ≡ decimal n)) }
 {
-    let number = text.parse::<u64>().ok()?;
+    let Ok(number) = text.parse::<u64>() else {
+        return None;
+    };
     if Buffer::new().format(number) == text {
         Some(number)
     } else {

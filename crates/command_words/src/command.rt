@@ -8,14 +8,11 @@ ghost use Rattle.command_words.specs.declared.capture.CaptureWord.{CaptureWord a
 ghost use Rattle.command_words.specs.declared.command.Command.{Command as Words};
 
 use crate::capture::CaptureWord;
-use crate::parser;
+use crate::parser::{self, Refusal};
 use clap::ArgMatches;
 use onvm_base::{MAX_PORTS, NoMemory};
 use onvm_report::Options;
-use std::alloc::Global;
-
-/// What is said where the words are no command, without the end of its line.
-pub const USAGE: &str = "usage: onvm [--serial] [--records] [--throttle-log] [--shares] CHAIN OUT CAPTURE...";
+use std::alloc::{AllocError, Global};
 
 /// What the words of a command ask for.
 #[derive(Debug, Drop)]
@@ -34,9 +31,11 @@ pub fn read<'a>(alloc: Global, words: &'a [String]) -> Result<Option<Command<'a>
     ensures read { IfOk result (λ read. IfSome read (λ command. IsCommand (map string_bytes words.entry.now) command)) }
     ensures none { IfOk result (λ read. IfNone read ((command : Words) → ¬ (IsCommand (map string_bytes words.entry.now) command))) }
 {
-    match parser::parse(alloc, words)? {
-        Some(matches) => command_of(alloc, &matches),
-        None => Ok(None),
+    prove!(words.len() <= usize::MAX);
+    match parser::parse(alloc, words) {
+        Ok(matches) => command_of(alloc, &matches),
+        Err(Refusal::Form) => Ok(None),
+        Err(Refusal::Memory) => Err(NoMemory),
     }
 }
 
@@ -64,11 +63,11 @@ fn command_of<'a>(alloc: Global, matches: &ArgMatches<'a>) -> Result<Option<Comm
 }
 
 // The words that are no flags.
-fn others_of<'a>(alloc: Global, matches: &ArgMatches<'a>) -> Result<Vec<&'a str>, NoMemory>
+fn others_of<'a>(alloc: Global, matches: &ArgMatches<'a>) -> Result<Vec<&'a str>, AllocError>
     ensures { IfOk result (λ others. map (λ text. text.now) others.items ≡ others_in (rows_of (found_of matches.now))) }
 {
     match matches.get_strs("word") {
-        Some(words) => Ok(Vec::from_slice(alloc, words)?),
+        Some(words) => Vec::from_slice(alloc, words),
         None => Ok(Vec::new(alloc)),
     }
 }

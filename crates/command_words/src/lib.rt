@@ -13,4 +13,4 @@ mod parser;
 mod tests;
 
 pub use capture::CaptureWord;
-pub use command::{Command, USAGE, read};
+pub use command::{Command, read};

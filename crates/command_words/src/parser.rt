@@ -1,5 +1,5 @@
 //! What `clap` is asked, and what it finds.
-ghost use Rattle.std.specs.Prelude.{◌≡◌, IfOk, IfNone, IfSome, IsTrue, codes, false, map, string_bytes};
+ghost use Rattle.std.specs.Prelude.{◌≡◌, IfOk, false, map, string_bytes};
 ghost use Rattle.clap.specs.Matches.{found_of};
 ghost use Rattle.clap.specs.Simple.{app_of};
 ghost use Rattle.clap.specs.Walk.{rows_of, rule_of};
@@ -7,21 +7,33 @@ ghost use Rattle.command_words.specs.Asked.{IsTaken, asked, bare_app, flag_rule,
 
 use clap::error::ErrorKind;
 use clap::{Arg, ArgAction, ArgMatches, Command};
-use onvm_base::NoMemory;
 use std::alloc::{AllocError, Global};
 
+/// Why words aren't read.
+#[derive(Clone, Copy, Debug, PartialEq, Eq)]
+pub enum Refusal {
+    /// They are no flags and other words.
+    Form,
+    /// Want of memory.
+    Memory,
+}
+
 /// The words as flags and other words, if they are no more than these.
-pub fn parse<'a>(alloc: Global, words: &'a [String]) -> Result<Option<ArgMatches<'a>>, NoMemory>
-    ensures taken { IfOk result (λ read. IfSome read (λ _. IsTaken (map string_bytes words.entry.now))) }
-    ensures matched { IfOk result (λ read. IfSome read (λ m.
-        rows_of (found_of m) ≡ matched (map string_bytes words.entry.now))) }
-    ensures refused { IfOk result (λ read. IfNone read (¬ IsTaken (map string_bytes words.entry.now))) }
+#[tactic(auto, unfolding(crate::specs::Asked::matched, crate::specs::Asked::IsTaken))]
+pub fn parse<'a>(alloc: Global, words: &'a [String]) -> Result<ArgMatches<'a>, Refusal>
+    ensures taken { IfOk result (λ _. IsTaken (map string_bytes words.entry.now)) }
+    ensures matched { IfOk result (λ m. rows_of (found_of m) ≡ matched (map string_bytes words.entry.now)) }
+    ensures refused { result ≡ Err Refusal.Form → IsTaken (map string_bytes words.entry.now) → ⊥ }
 {
-    match asked(alloc)?.try_get_matches_from(words) {
-        Ok(matches) => Ok(Some(matches)),
+    let command = match asked(alloc) {
+        Ok(command) => command,
+        Err(_) => return Err(Refusal::Memory),
+    };
+    match command.try_get_matches_from(words) {
+        Ok(matches) => Ok(matches),
         Err(error) => match error.kind() {
-            ErrorKind::OutOfMemory => Err(NoMemory),
-            _ => Ok(None),
+            ErrorKind::OutOfMemory => Err(Refusal::Memory),
+            _ => Err(Refusal::Form),
         },
     }
 }
