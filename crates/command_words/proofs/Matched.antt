@@ -1,7 +1,7 @@
 -- What the getter of texts gives.
-use Rattle.std.proofs.Common.{◌≡◌, List, ℕ, [], map, Option, Some, None, Bor, option_map, sym, ap, ◌∙◌}
+use Rattle.std.proofs.Common.{◌≡◌, [], option_map, sym, ap}
 use Rattle.std.specs.Prelude.{unwrap_or}
-use Rattle.clap.specs.Matches.{found_of, matched_of, raw_values}
+use Rattle.clap.specs.Matches.{matched_of, raw_values}
 use Rattle.clap.specs.Walk.{rows_of}
 use Rattle.clap.specs.declared.parser.matches.Found.{Found}
 use Rattle.clap.proofs.WalkLemmas.{raw_values-rows}

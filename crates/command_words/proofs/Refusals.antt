@@ -1,19 +1,16 @@
 -- Where one word is refused.
-use Rattle.std.proofs.Common.{◌≡◌, ◌∙◌, ◌≤◌, ◌<◌, ◌+◌, ◌==◌, ◌&&◌, ◌||◌, ◌⊎◌, inl, inr, ℕ, Bool, cond, true, false, not, zero, suc, refl, sym, ap, arith, List, [], ◌∷◌, ◌++◌, length, take, Option, Some, None, true≢false, codes, nat_lt}
-use Rattle.std.specs.Str.{bytes_eq, chars, IsUtf8, encode_utf8_all}
-use Rattle.std.specs.Prelude.{encode_utf8}
-use Rattle.std.specs.List.{before_first, list_any, position_or_len}
+use Rattle.std.proofs.Common.{◌≡◌, ◌∙◌, ◌≤◌, ◌+◌, ◌==◌, ◌||◌, ℕ, Bool, cond, true, false, not, suc, refl, sym, ap, arith, List, [], ◌∷◌, length, take, true≢false, nat_lt}
+use Rattle.std.specs.Str.{bytes_eq}
+use Rattle.std.specs.List.{before_first, position_or_len}
 use Rattle.std.proofs.Math.Numerals.{one-add}
 use Rattle.std.proofs.lemmas.Slice.Eq.{bytes_eq-Decides}
-use Rattle.std.proofs.lemmas.Str.{encodes-chars}
-use Rattle.clap.specs.Lexer.{usize_max, long_of, short_of, has_byte, name_and_value}
-use Rattle.clap.specs.Walk.{Held, Row, Rule, Text, Walk, arg_by_long, has_row, settled_rows, used, walked}
-use Rattle.clap.specs.Kinds.{Kinds, or_else, range_kinds, values_kinds}
-use Rattle.clap.specs.Faults.{settle_fault, turn_fault, long_fault, walk_fault, flags_fault}
+use Rattle.clap.specs.Lexer.{usize_max, has_byte}
+use Rattle.clap.specs.Walk.{Row, Text, has_row, settled_rows}
+use Rattle.clap.specs.Kinds.{or_else, range_kinds, values_kinds}
+use Rattle.clap.specs.Faults.{settle_fault, turn_fault}
 use Rattle.clap.specs.declared.builder.value_parser.ValueParser.TheVariants as vp
-use Rattle.command_words.specs.Flags.{is_flag, is_known, ends_flags}
-use Rattle.command_words.proofs.Lookups.{bytes_eq-same}
-use Rattle.command_words.proofs.Steps.{Flag, IsPlain, at, held_at, name_of, passes, passes-or_else, pend, records, rule_for, rules, serial, shape, shares, text_of, throttle_log}
+use Rattle.command_words.specs.Flags.{is_known}
+use Rattle.command_words.proofs.Steps.{Flag, IsPlain, at, held_at, name_of, passes, pend, records, rules, serial, shape, shares, text_of, throttle_log}
 
 -- a text is taken as it is
 any_text : (ignore_case : Bool) (texts : List Text) → values_kinds ignore_case vp.String texts ≡ []

@@ -1,15 +1,12 @@
 -- What one word does to the walk, and whether it is refused.
-use Rattle.std.proofs.Common.{◌≡◌, ◌∙◌, ◌≤◌, ◌+◌, ◌==◌, ◌&&◌, ◌||◌, ℕ, Bool, cond, true, false, not, zero, suc, refl, sym, ap, arith, List, [], ◌∷◌, ◌++◌, length, Option, Some, None, true≢false, codes, nat_lt}
+use Rattle.std.proofs.Common.{◌≡◌, ◌==◌, ◌&&◌, Bool, true, false, refl, List, [], ◌∷◌, ◌++◌, Option, Some, None, codes}
 use Rattle.std.specs.Str.{bytes_eq}
-use Rattle.std.proofs.lemmas.Slice.Eq.{bytes_eq-Decides}
-use Rattle.clap.specs.Lexer.{usize_max, long_of, short_of}
-use Rattle.clap.specs.Walk.{Held, Row, Rule, Text, Waiting, idle, positional, Walk, has_row, settled_rows, used, walked}
+use Rattle.clap.specs.Lexer.{long_of, short_of}
+use Rattle.clap.specs.Walk.{Held, Row, Rule, Text, Waiting, idle, positional, Walk, settled_rows, used, walked}
 use Rattle.clap.specs.Simple.{Shape, built, filled, with_index}
-use Rattle.clap.specs.Kinds.{Kinds, or_else, values_kinds}
-use Rattle.clap.specs.Faults.{settle_fault, turn_fault, walk_fault, flags_fault}
-use Rattle.clap.specs.declared.builder.value_parser.ValueParser.TheVariants as vp
+use Rattle.clap.specs.Kinds.{Kinds, or_else}
 use Rattle.command_words.specs.Asked.{asked, flag_rule}
-use Rattle.command_words.specs.Flags.{is_flag, is_known, ends_flags}
+use Rattle.command_words.specs.Flags.{is_flag}
 
 abbrev pub shape : Shape
 shape = (built asked).top

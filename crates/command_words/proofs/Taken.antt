@@ -1,6 +1,6 @@
 -- What `clap` takes, and what it finds.
-use Rattle.std.proofs.Common.{◌≡◌, ◌∙◌, ◌≤◌, ◌&&◌, ◌||◌, ℕ, Bool, cond, true, false, not, zero, suc, refl, sym, ap, subst, arith, List, [], ◌∷◌, ◌++◌, length, map, Option, Some, None, true≢false, codes}
-use Rattle.std.specs.Prelude.{⊤, ◌↔◌, slice_get, option_and_then}
+use Rattle.std.proofs.Common.{◌≡◌, ◌∙◌, ◌≤◌, ◌&&◌, ◌||◌, Bool, cond, true, false, suc, refl, sym, ap, subst, arith, List, [], ◌∷◌, ◌++◌, length, Some, true≢false, codes}
+use Rattle.std.specs.Prelude.{◌↔◌, slice_get, option_and_then}
 use Rattle.std.specs.List.{All, fold}
 use Rattle.std.specs.Option.{is_some, unwrap_or}
 use Rattle.std.specs.Str.{bytes_eq, IsUtf8}
@@ -99,7 +99,7 @@ taken words utf8 few = ap passes (fault_parts words) ∙ go (are_new [] (flags_o
     go true e =
         let end = end_of words few e in
         both_passed (walk_fault shape [] start words) (rest_fault (fold (walked rules []) start words))
-            (ap rest_fault end.is ∙ nothing_left end.rows end.last end.waiting end.trailing end.few) ∙ walk_passes
+        (ap rest_fault end.is ∙ nothing_left end.rows end.last end.waiting end.trailing end.few) ∙ walk_passes
 
 -- ---- what is found
 
@@ -181,7 +181,7 @@ settled_end : (words : List Text) (end : Ended (fold (walked rules []) start wor
     → Holds (settled_rows rules (pend end.last) end.rows) (flags_of words) (others_of words)
 settled_end words end =
     subst (Holds (settled_rows rules (pend end.last) end.rows) (flags_of words)) end.words
-        (settled_holds end.rows (flags_of words) (unwrap_or (all_of (codes "word") end.rows) []) end.last (record { flags = end.given; words = refl }))
+    (settled_holds end.rows (flags_of words) (unwrap_or (all_of (codes "word") end.rows) []) end.last (record { flags = end.given; words = refl }))
 
 matched_end : (words : List Text) (end : Ended (fold (walked rules []) start words) (λ flag. is_given (text_of flag) (flags_of words)) (others_of words))
     → matched words ≡ with_defaults (settled_rows rules (pend end.last) end.rows)
@@ -200,7 +200,7 @@ found_flag flag words few new =
     let end = end_of words few new in
     first_of-all_of (name_of flag) (matched words) ∙ ap (λ r. option_and_then (λ (values : List Text). slice_get values 0) (all_of (name_of flag) r)) (matched_end words end)
     ∙ ap (option_and_then (λ (values : List Text). slice_get values 0))
-        (finished_flag flag (settled_rows rules (pend end.last) end.rows) (is_given (text_of flag) (flags_of words)) ((settled_end words end).flags flag))
+    (finished_flag flag (settled_rows rules (pend end.last) end.rows) (is_given (text_of flag) (flags_of words)) ((settled_end words end).flags flag))
 
 is_given_text : (given : Bool) → Some (flag_text given) ≡ Some (codes "true") → given ≡ true
 is_given_text true e = refl

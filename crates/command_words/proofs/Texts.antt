@@ -1,17 +1,15 @@
 -- The texts of strings, and of generated captures.
-use Rattle.std.proofs.Common.{◌≡◌, ◌∙◌, ◌<◌, ◌≤◌, ◌^◌, ◌+◌, ℕ, Bool, true, false, zero, suc, refl, sym, ap, subst, arith, List, [], ◌∷◌, ◌++◌, length, map, decimal, get_or, take, drop, true≢false, Global, Option, Some, None, Result, Ok, Err, Bor, codes, append_assoc, nat_eq}
-use Rattle.std.specs.Prelude.{IsUtf8, ◌≢◌, string_bytes, String, MatchOption, IfNone, IfSome}
-use Rattle.std.specs.List.{All, slice_index_or, starts_with}
+use Rattle.std.proofs.Common.{◌≡◌, ◌∙◌, ◌<◌, ◌≤◌, ◌^◌, ℕ, zero, suc, sym, ap, arith, List, [], ◌∷◌, ◌++◌, length, map, decimal, get_or, drop, true≢false, Global, Option, Result, Ok, Err, Bor, codes, append_assoc}
+use Rattle.std.specs.Prelude.{IsUtf8, ◌≢◌, string_bytes, String, MatchOption}
+use Rattle.std.specs.List.{All, slice_index_or}
 use Rattle.std.specs.Result.{is_ok, result_unwrap_or}
 use Rattle.std.specs.Str.Parse.{digits_value}
 use Rattle.std.proofs.lemmas.Str.{IsUtf8-string_bytes}
 use Rattle.std.proofs.lemmas.Str.Parse.{digit_at}
 use Rattle.std.proofs.lemmas.Str.Pattern.{IsSplitOnceResult, split_after}
 use Rattle.std.proofs.lemmas.Fmt.{decimal_is_IsNumeral}
-use Rattle.command_words.specs.Commands.{IsCapture, is_generated, word_of}
-use Rattle.onvm_base.specs.declared.limits.TheConstants.{MAX_PORT_FRAMES}
+use Rattle.command_words.specs.Commands.{IsCapture, word_of}
 use Rattle.command_words.specs.declared.capture.CaptureWord.{CaptureWord}
-use Rattle.command_words.specs.declared.capture.CaptureWord.TheVariants as kind
 
 pub utf8_texts : (words : List (String Global)) → All IsUtf8 (map string_bytes words)
 utf8_texts [] k d less = absurd (omega arith)

@@ -1,5 +1,5 @@
 -- A flag that isn't known is refused.
-use Rattle.std.proofs.Common.{◌≡◌, ◌∙◌, ◌==◌, ◌&&◌, ◌||◌, ℕ, Bool, cond, true, false, not, suc, zero, refl, sym, ap, subst, arith, List, [], ◌∷◌, ◌++◌, length, Option, Some, None, true≢false, codes}
+use Rattle.std.proofs.Common.{◌≡◌, ◌∙◌, ◌==◌, ◌&&◌, ℕ, Bool, true, false, suc, refl, sym, ap, subst, arith, List, [], ◌∷◌, length, Some, None, true≢false, codes}
 use Rattle.std.specs.Str.{bytes_eq, chars, IsUtf8, encode_utf8_all}
 use Rattle.std.specs.Char.{encode_utf8}
 use Rattle.std.specs.List.{after_first, before_first}
@@ -10,10 +10,9 @@ use Rattle.clap.specs.Walk.{Held, Row, Text, arg_by_long}
 use Rattle.clap.specs.Kinds.{Kinds, or_else}
 use Rattle.std.proofs.lemmas.Bool.Decides.{Decides-eqb}
 use Rattle.clap.specs.Faults.{bundle_fault, flags_fault, flag_word_fault, long_fault, turn_fault}
-use Rattle.clap.proofs.OnLiterals.{clap_on_literals}
 use Rattle.command_words.specs.Flags.{is_flag, is_known}
 use Rattle.command_words.proofs.Refusals.{is_known-flag, whole_name}
-use Rattle.command_words.proofs.Steps.{Flag, at, held_at, name_of, passes, passes-or_else, records, rules, serial, shape, shares, text_of, throttle_log}
+use Rattle.command_words.proofs.Steps.{Flag, at, held_at, name_of, passes, passes-or_else, records, rules, serial, shape, shares, throttle_log}
 
 -- `--name=value`
 with_value : (name value : Text) (h : Held) → passes (long_fault rules false (arg_by_long rules name) (Some value) h) ≡ false
@@ -105,7 +104,7 @@ hyphen_turn rows texts waiting b bs utf8 dashes unknown = go (b == 45) refl
     go true e =
         let is : b ≡ 45 = (Decides-eqb b 45).0 e in
         subst (λ n. passes (turn_fault shape [] (at rows texts waiting false) (45 ∷ n ∷ bs)) ≡ false) (sym is)
-            (double_turn rows texts waiting bs (subst (λ n. bytes_eq (45 ∷ n ∷ bs) (45 ∷ 45 ∷ []) ≡ false) is dashes) (subst (λ n. is_known (45 ∷ n ∷ bs) ≡ false) is unknown))
+        (double_turn rows texts waiting bs (subst (λ n. bytes_eq (45 ∷ n ∷ bs) (45 ∷ 45 ∷ []) ≡ false) is dashes) (subst (λ n. is_known (45 ∷ n ∷ bs) ≡ false) is unknown))
     go false e = short_turn rows texts waiting b bs utf8 e
 
 pub unknown_turn : (rows : List Row) (texts : List Text) (waiting : Bool) (text : Text) → IsUtf8 text → is_flag text ≡ true
@@ -115,5 +114,5 @@ unknown_turn rows texts waiting (a ∷ []) utf8 flag dashes unknown = absurd (tr
 unknown_turn rows texts waiting (a ∷ b ∷ bs) utf8 flag dashes unknown =
     let is : a ≡ 45 = (Decides-eqb a 45).0 flag in
     subst (λ n. passes (turn_fault shape [] (at rows texts waiting false) (n ∷ b ∷ bs)) ≡ false) (sym is)
-        (hyphen_turn rows texts waiting b bs (subst (λ n. IsUtf8 (n ∷ b ∷ bs)) is utf8)
-        (subst (λ n. bytes_eq (n ∷ b ∷ bs) (45 ∷ 45 ∷ []) ≡ false) is dashes) (subst (λ n. is_known (n ∷ b ∷ bs) ≡ false) is unknown))
+    (hyphen_turn rows texts waiting b bs (subst (λ n. IsUtf8 (n ∷ b ∷ bs)) is utf8)
+    (subst (λ n. bytes_eq (n ∷ b ∷ bs) (45 ∷ 45 ∷ []) ≡ false) is dashes) (subst (λ n. is_known (n ∷ b ∷ bs) ≡ false) is unknown))

@@ -1,23 +1,21 @@
 -- The walk over all words.
-use Rattle.std.proofs.Common.{◌≡◌, ◌∙◌, ◌≤◌, ◌+◌, ◌==◌, ◌&&◌, ◌||◌, ℕ, Bool, cond, true, false, not, suc, zero, refl, sym, ap, subst, arith, List, [], ◌∷◌, ◌++◌, length, Option, Some, None, true≢false, codes, append-nil, append_assoc, length-append}
+use Rattle.std.proofs.Common.{◌≡◌, ◌∙◌, ◌≤◌, ◌+◌, ◌&&◌, ◌||◌, Bool, cond, true, false, not, suc, refl, sym, ap, subst, arith, List, [], ◌∷◌, ◌++◌, length, Option, Some, None, true≢false, codes, append-nil, append_assoc, length-append}
 use Rattle.std.specs.Prelude.{⊤}
 use Rattle.std.specs.List.{fold}
 use Rattle.std.specs.Option.{is_some, unwrap_or}
 use Rattle.std.specs.Str.{bytes_eq, IsUtf8}
 use Rattle.std.proofs.lemmas.Slice.Eq.{bytes_eq-Decides}
 use Rattle.clap.specs.Lexer.{usize_max}
-use Rattle.clap.specs.Walk.{Row, Text, Walk, all_of, has_row, reading_by, settled_rows, used, walked, with_values, without}
+use Rattle.clap.specs.Walk.{Row, Text, Walk, all_of, has_row, reading_by, settled_rows, used, walked, without}
 use Rattle.clap.specs.Simple.{filled, with_index}
-use Rattle.clap.specs.Kinds.{or_else}
 use Rattle.clap.specs.Faults.{turn_fault, walk_fault}
-use Rattle.clap.specs.declared.builder.value_parser.ValueParser.TheVariants as vp
 use Rattle.clap.specs.declared.parser.matches.ValueSource.TheVariants.{CommandLine}
 use Rattle.command_words.specs.Asked.{other_words}
 use Rattle.command_words.specs.Flags.{are_new, ends_flags, flags_of, is_flag, is_given, is_known, others_of}
 use Rattle.command_words.proofs.Lookups.{all_of-other, all_of-with_values, has_row-all_of, without-missing}
 use Rattle.command_words.proofs.Refusals.{dashes_turn, flag_turn, is_known-flag, known_flag, plain_turn, trailing_turn}
 use Rattle.command_words.proofs.Steps.{Flag, at, name_of, passes, passes-or_else, pend, plain, records, rule_for, rules, serial, shape, shares, text_of, throttle_log, walked-dashes, walked-flag, walked-plain, walked-trailing}
-use Rattle.command_words.proofs.Unknown.{refused_first, unknown_turn}
+use Rattle.command_words.proofs.Unknown.{unknown_turn}
 
 -- what stands at a flag
 abbrev pub given_row : Bool → Option (List Text)
@@ -140,11 +138,11 @@ refuses-word text words ih true f k ee ef ek rows seen given texts waiting h utf
     rw (dashes_turn rows texts waiting text ee, walked-dashes rows texts waiting text ee, trailing_walk words rows texts waiting) refl
 refuses-word text words ih false false k ee ef ek rows seen given texts waiting h utf8 each few =
     rw (plain_turn rows texts waiting text (plain text ef), walked-plain rows texts waiting text (plain text ef))
-        (ih rows seen given (texts ++ text ∷ []) true h each (simp length-append (omega (arith, few))))
+    (ih rows seen given (texts ++ text ∷ []) true h each (simp length-append (omega (arith, few))))
 refuses-word text words ih false true true ee ef ek rows seen given texts waiting h utf8 each few =
     let known = known_flag text ek in
     subst (λ t. (passes (turn_fault shape [] (at rows texts waiting false) t) && passes (walk_fault shape [] (walked rules [] (at rows texts waiting false) t) words))
-        ≡ are_new seen (t ∷ flags_of words)) (sym known.1) (refuses-flag known.0 words ih rows seen given texts waiting h each few)
+    ≡ are_new seen (t ∷ flags_of words)) (sym known.1) (refuses-flag known.0 words ih rows seen given texts waiting h each few)
 refuses-word text words ih false true false ee ef ek rows seen given texts waiting h utf8 each few =
     rw (unknown_turn rows texts waiting text utf8 ef ee ek, ek) refl
 
@@ -183,8 +181,8 @@ ended_trailing [] rows seen given texts waiting flags all h few same is = record
 }
 ended_trailing (text ∷ words) rows seen given texts waiting flags all h few same is =
     rw (walked-trailing rows texts waiting text)
-        (ended_trailing words rows seen given (texts ++ text ∷ []) true flags all h (simp length-append (omega (arith, few))) same
-        (is ∙ ap (λ x. given ++ x) (sym (append_assoc texts (text ∷ []) words))))
+    (ended_trailing words rows seen given (texts ++ text ∷ []) true flags all h (simp length-append (omega (arith, few))) same
+    (is ∙ ap (λ x. given ++ x) (sym (append_assoc texts (text ∷ []) words))))
 
 abbrev Ends : List Text → Type 0
 Ends words = (rows : List Row) (seen given texts : List Text) (waiting : Bool) (flags : Flag → Bool) (all : List Text)
@@ -221,10 +219,10 @@ ends-flag flag words ih rows seen given texts waiting flags all h few new same i
     let parts = both (not (is_given (text_of flag) seen)) (are_new (text_of flag ∷ seen) (flags_of words)) (both (is_known (text_of flag)) _ new).1 in
     let fresh : is_given (text_of flag) seen ≡ false = not_true (is_given (text_of flag) seen) parts.0 in
     rw (walked-flag flag rows texts waiting)
-        (ih (used (rule_for flag) [] after) (text_of flag ∷ seen) (given ++ texts) [] false flags all (used_holds after seen (given ++ texts) flag held fresh)
-        (omega (arith, few)) parts.1
-        (λ other. same other ∙ or_swap (is_given (text_of other) seen) (bytes_eq (text_of flag) (text_of other)) (is_given (text_of other) (flags_of words)))
-        (is ∙ sym (append_assoc given texts (others_of words))))
+    (ih (used (rule_for flag) [] after) (text_of flag ∷ seen) (given ++ texts) [] false flags all (used_holds after seen (given ++ texts) flag held fresh)
+    (omega (arith, few)) parts.1
+    (λ other. same other ∙ or_swap (is_given (text_of other) seen) (bytes_eq (text_of flag) (text_of other)) (is_given (text_of other) (flags_of words)))
+    (is ∙ sym (append_assoc given texts (others_of words))))
 
 ends-word : (text : Text) (words : List Text) → Ends words → (e f k : Bool) → ends_flags text ≡ e → is_flag text ≡ f → is_known text ≡ k
     → (rows : List Row) (seen given texts : List Text) (waiting : Bool) (flags : Flag → Bool) (all : List Text)
@@ -235,16 +233,16 @@ ends-word : (text : Text) (words : List Text) → Ends words → (e f k : Bool) 
     → Ended (fold (walked rules []) (walked rules [] (at rows texts waiting false) text) words) flags all
 ends-word text words ih true f k ee ef ek rows seen given texts waiting flags all h few new same is =
     rw (walked-dashes rows texts waiting text ee)
-        (ended_trailing words rows seen given texts waiting flags all h (omega (arith, few)) (λ flag. same flag ∙ or_false (is_given (text_of flag) seen)) is)
+    (ended_trailing words rows seen given texts waiting flags all h (omega (arith, few)) (λ flag. same flag ∙ or_false (is_given (text_of flag) seen)) is)
 ends-word text words ih false false k ee ef ek rows seen given texts waiting flags all h few new same is =
     rw (walked-plain rows texts waiting text (plain text ef))
-        (ih rows seen given (texts ++ text ∷ []) true flags all h (simp length-append (omega (arith, few))) new same
-        (is ∙ ap (λ x. given ++ x) (sym (append_assoc texts (text ∷ []) (others_of words)))))
+    (ih rows seen given (texts ++ text ∷ []) true flags all h (simp length-append (omega (arith, few))) new same
+    (is ∙ ap (λ x. given ++ x) (sym (append_assoc texts (text ∷ []) (others_of words)))))
 ends-word text words ih false true true ee ef ek rows seen given texts waiting flags all h few new same is =
     let known = known_flag text ek in
     subst (λ t. Ended (fold (walked rules []) (walked rules [] (at rows texts waiting false) t) words) flags all) (sym known.1)
-        (ends-flag known.0 words ih rows seen given texts waiting flags all h few (subst (λ t. are_new seen (t ∷ flags_of words) ≡ true) known.1 new)
-        (λ other. same other ∙ ap (λ t. is_given (text_of other) seen || is_given (text_of other) (t ∷ flags_of words)) known.1) is)
+    (ends-flag known.0 words ih rows seen given texts waiting flags all h few (subst (λ t. are_new seen (t ∷ flags_of words) ≡ true) known.1 new)
+    (λ other. same other ∙ ap (λ t. is_given (text_of other) seen || is_given (text_of other) (t ∷ flags_of words)) known.1) is)
 ends-word text words ih false true false ee ef ek rows seen given texts waiting flags all h few new same is =
     absurd (true≢false (sym (both (is_known text) _ new).0 ∙ ek))
 

@@ -1,5 +1,5 @@
 //! A capture, as a word names it.
-ghost use Rattle.std.specs.Prelude.{◌≡◌, ◌<◌, ◌≤◌, ◌^◌,  ◌++◌, ℕ, IfNone, IfSome, codes, decimal};
+ghost use Rattle.std.specs.Prelude.{◌≡◌, ◌<◌, ◌≤◌, ◌^◌, ◌++◌, ℕ, IfNone, IfSome, codes, decimal};
 ghost use Rattle.command_words.specs.Commands.{IsCapture, word_of};
 ghost use Rattle.command_words.specs.declared.capture.CaptureWord.{CaptureWord as Capture};
 

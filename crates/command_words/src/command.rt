@@ -93,7 +93,10 @@ fn is_given(matches: &ArgMatches, flag: &str) -> bool
 }
 
 // The captures that the words name, if each of them names one.
-fn captures_of<'a>(alloc: Global, words: &[&'a str]) -> Result<Option<Vec<CaptureWord<'a>>>, NoMemory>
+fn captures_of<'a>(
+    alloc: Global,
+    words: &[&'a str],
+) -> Result<Option<Vec<CaptureWord<'a>>>, NoMemory>
     ensures named { IfOk result (λ read. IfSome read (λ captures.
         (map word_of captures.items ≡ map (λ text. text.now) words.now) × All IsCapture captures.items)) }
     ensures none { IfOk result (λ read. IfNone read ((captures : List Capture) → All IsCapture captures

@@ -28,23 +28,71 @@ fn is_command(alloc: Global, words: &[&str]) -> Result<bool, NoMemory> {
 
 #[test]
 fn flags_stand_anywhere_before_two_hyphens(rt: HostRuntime) -> Result<(), Fail> {
-    let words = ["c", "--serial", "o", "--shares", "-", "--", "--records", "--"];
+    let words = [
+        "c",
+        "--serial",
+        "o",
+        "--shares",
+        "-",
+        "--",
+        "--records",
+        "--",
+    ];
     let words = strings(rt.alloc(), &words)?;
     let command = read(rt.alloc(), words.as_slice())?.expect(&rt, "a command");
-    assert_eq!(rt; command.options, Options { serial: true, shares: true, ..NONE });
+    assert_eq!(rt;
+        command.options,
+        Options {
+            serial: true,
+            shares: true,
+            ..NONE
+        }
+    );
     assert_eq!(rt; command.chain, "c");
     assert_eq!(rt; command.output, "o");
-    assert_eq!(rt; command.captures.as_slice(), [CaptureWord::File("-"), CaptureWord::File("--records"), CaptureWord::File("--")].as_slice());
+    assert_eq!(rt;
+        command.captures.as_slice(),
+        [
+            CaptureWord::File("-"),
+            CaptureWord::File("--records"),
+            CaptureWord::File("--")
+        ]
+        .as_slice()
+    );
     Ok(())
 }
 
 #[test]
 fn each_flag_sets_its_option(rt: HostRuntime) -> Result<(), Fail> {
     for (flag, options) in [
-        ("--serial", Options { serial: true, ..NONE }),
-        ("--records", Options { records: true, ..NONE }),
-        ("--throttle-log", Options { throttle_log: true, ..NONE }),
-        ("--shares", Options { shares: true, ..NONE }),
+        (
+            "--serial",
+            Options {
+                serial: true,
+                ..NONE
+            },
+        ),
+        (
+            "--records",
+            Options {
+                records: true,
+                ..NONE
+            },
+        ),
+        (
+            "--throttle-log",
+            Options {
+                throttle_log: true,
+                ..NONE
+            },
+        ),
+        (
+            "--shares",
+            Options {
+                shares: true,
+                ..NONE
+            },
+        ),
     ] {
         let words = strings(rt.alloc(), &["c", "o", "k", flag])?;
         let command = read(rt.alloc(), words.as_slice())?.expect(&rt, "a command");
@@ -86,8 +134,20 @@ fn captures_are_files_or_generated(rt: HostRuntime) -> Result<(), Fail> {
         ("", CaptureWord::File("")),
         ("generated", CaptureWord::File("generated")),
         ("gen:0:0", CaptureWord::Generated { seed: 0, count: 0 }),
-        ("gen:7:100000", CaptureWord::Generated { seed: 7, count: 100_000 }),
-        ("gen:18446744073709551615:262144", CaptureWord::Generated { seed: u64::MAX, count: 262_144 }),
+        (
+            "gen:7:100000",
+            CaptureWord::Generated {
+                seed: 7,
+                count: 100_000,
+            },
+        ),
+        (
+            "gen:18446744073709551615:262144",
+            CaptureWord::Generated {
+                seed: u64::MAX,
+                count: 262_144,
+            },
+        ),
     ] {
         assert_eq!(rt; CaptureWord::of(word), Some(capture));
     }

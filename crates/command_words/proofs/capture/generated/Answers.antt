@@ -1,6 +1,6 @@
 use Rattle.std.proofs.Common.{arith}
 use Rattle.command_words.proofs.Texts.{cut, same_number}
-use Rattle.std.proofs.Common.{◌≡◌, ◌∙◌, sym, ◌≤◌, ◌<◌, ◌^◌}
+use Rattle.std.proofs.Common.{◌≡◌, ◌∙◌, sym}
 use Rattle.command_words.proofs.capture.generated.Goals as goal
 
 pub returns-in_default-clause-none : goal.returns-in_default-clause-none
