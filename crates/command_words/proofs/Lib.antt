@@ -1,0 +1,9 @@
+mod Lookups
+mod Matched
+mod Reading
+mod Refusals
+mod Steps
+mod Taken
+mod Texts
+mod Unknown
+mod Walks
