@@ -25,7 +25,7 @@ use Rattle.chain_file.proofs.Untold.{earlier_none}
 
 -- ---- one function
 
-abbrev function_causes : (cores : ℕ) (guests : List (List ℕ)) → Data → List (Option Cause)
+abbrev pub function_causes : (cores : ℕ) (guests : List (List ℕ)) → Data → List (Option Cause)
 function_causes cores guests d =
     keys_cause (word_in d) d
     ∷ (name_at (get (codes "name") d)).cause

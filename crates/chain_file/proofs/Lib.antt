@@ -1,5 +1,6 @@
 pub mod Compact
 pub mod Cutting
+pub mod HandedIn
 pub mod KeptChains
 pub mod KeptFunctions
 pub mod KeptKinds
@@ -9,6 +10,7 @@ pub mod KeptPlan
 pub mod KeptPrefixes
 pub mod KeptTests
 pub mod Listing
+pub mod Longer
 pub mod Pairs
 pub mod Places
 pub mod Ranges

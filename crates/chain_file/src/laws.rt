@@ -34,6 +34,18 @@ pub fn one_plan()
         → IsRead bytes captures guests plan → IsRead bytes captures guests other → IsSamePlan plan other }
 {}
 
+/// Each guest that a plan's functions name is one of those that were handed in.
+pub fn a_plans_guests_are_handed_in()
+    ensures { (bytes : List ℕ) (captures : ℕ) (guests : List (List ℕ)) (plan : Plan)
+        → IsRead bytes captures guests plan → HaveGuests guests plan.functions }
+{}
+
+/// A plan has a port for each capture.
+pub fn there_are_no_more_captures_than_ports()
+    ensures { (bytes : List ℕ) (captures : ℕ) (guests : List (List ℕ)) (plan : Plan)
+        → IsRead bytes captures guests plan → captures ≤ plan.ports }
+{}
+
 /// Every plan has a file: its written form is one, and is read as the plan, where there are no more captures
 /// than ports and the guests that it names are handed in.
 pub fn the_written_form_is_read_back()

@@ -1,5 +1,5 @@
 -- The units of a plan's functions, and what a unit does.
-use Rattle.std.specs.Prelude.{◌≡◌, ⊤, ℕ, ◌==◌, ◌&&◌, if◌then◌else◌, Bool, true, false, List, [], ◌∷◌, length, All, Option, Some, None, IsSome, IsTrue, slice_get}
+use Rattle.std.specs.Prelude.{◌≡◌, ⊤, ℕ, if◌then◌else◌, List, [], ◌∷◌, length, All, Option, Some, None, IsSome, IsTrue, bytes_eq, slice_get}
 use Rattle.onvm_base.specs.declared.function.FunctionPlan.{FunctionPlan}
 use Rattle.onvm_base.specs.declared.function.Kind.{Kind}
 use Rattle.onvm_base.specs.declared.function.Kind.TheVariants as kind
@@ -15,18 +15,12 @@ use Rattle.nf_state.specs.Kinds as keeper
 use Rattle.nf_catalog.specs.declared.unit.UnitOf.{UnitOf}
 use Rattle.nf_catalog.specs.declared.unit.UnitOf.TheVariants as unit
 
-abbrev pub are_same : List ℕ → List ℕ → Bool
-are_same [] [] = true
-are_same [] (d ∷ ds) = false
-are_same (c ∷ cs) [] = false
-are_same (c ∷ cs) (d ∷ ds) = (c == d) && are_same cs ds
-
 -- A guest's box holds a table of its functions, of a type V, and beside it a value, of a type F that the table names.
 
 -- the first guest of a name
 abbrev pub guest_named : {V : Type 0} {F : V → Type 0} → List ℕ → List (Guest V F) → Option (Guest V F)
 guest_named name [] = None
-guest_named name (guest ∷ rest) = if are_same guest.name name then Some guest else guest_named name rest
+guest_named name (guest ∷ rest) = if bytes_eq name guest.name then Some guest else guest_named name rest
 
 -- the kind that a unit was made of
 abbrev pub kind_of : {V : Type 0} {F : V → Type 0} → UnitOf (Guest V F) → Kind
