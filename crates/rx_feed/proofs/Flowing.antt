@@ -13,10 +13,10 @@ use Rattle.pcap_in.specs.declared.pull.PcapFault.{PcapFault}
 use Rattle.pcap_in.specs.declared.pull.Pull.TheVariants as pull
 use Rattle.pcap_in.specs.declared.spelling.Spelling.{Spelling}
 use Rattle.pcap_in.proofs.HasRead.{HasRead-fed, HasRead-length, HasRead-pulled, IsCapture-ended, IsCaptureUpTo-met}
-use Rattle.ingress.specs.Fed.{WantsMore}
-use Rattle.ingress.specs.Limits.{IsSoundSoFar, IsWithinLimits, PassesLimit, bytes_of, record_limit}
-use Rattle.ingress.proofs.Captured.{inside-WantsMore, length-IsCapture, short-WantsMore}
-use Rattle.ingress.proofs.Sound.{sound-WantsMore}
+use Rattle.rx_feed.specs.Streams.{WantsMore}
+use Rattle.rx_feed.specs.Limits.{IsSoundSoFar, IsWithinLimits, PassesLimit, bytes_of, record_limit}
+use Rattle.rx_feed.proofs.Captured.{inside-WantsMore, length-IsCapture, short-WantsMore}
+use Rattle.rx_feed.proofs.Sound.{sound-WantsMore}
 use Rattle.rx_feed.specs.Standing.{BeginsWith, StandsSoFar, most_unused, used_by}
 use Rattle.rx_feed.specs.Streams.{IsFlow}
 use Rattle.rx_feed.specs.declared.stream.TheConstants.{PIECE_LEN}

@@ -4,8 +4,8 @@ use Rattle.std.specs.Io.KnownBytes.{Consumes, IsAtEnd}
 use Rattle.onvm_base.specs.declared.frame.Frame.{Frame}
 use Rattle.onvm_host.specs.Deeds.{Amounts}
 use Rattle.onvm_host.proofs.Bytes.{Consumes-to_end}
-use Rattle.ingress.specs.Limits.{IsWithinLimits, PassesLimit}
-use Rattle.ingress.proofs.Captured.{within_first}
+use Rattle.rx_feed.specs.Limits.{IsWithinLimits, PassesLimit}
+use Rattle.rx_feed.proofs.Captured.{within_first}
 use Rattle.pcap_in.specs.Classic.{IsCapture}
 use Rattle.pcap_in.specs.Faulty.{IsCaptureUpTo}
 use Rattle.pcap_in.specs.declared.pull.PcapFault.{PcapFault}

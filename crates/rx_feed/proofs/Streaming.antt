@@ -3,7 +3,7 @@ use Rattle.std.proofs.Common.{◌≡◌, ◌∙◌, sym, ap, subst, refl, inl, i
 use Rattle.onvm_base.specs.declared.frame.Frame.{Frame}
 use Rattle.onvm_host.specs.Deeds.{Amounts}
 use Rattle.pcap_in.specs.Reading.{Reading}
-use Rattle.ingress.specs.Limits.{IsWithinLimits, bytes_of}
+use Rattle.rx_feed.specs.Limits.{IsWithinLimits, bytes_of}
 use Rattle.rx_feed.specs.History.{bytes_in, frames_in}
 use Rattle.rx_feed.specs.Standing.{IsStanding, IsTakenSince, Standing, StandsSoFar}
 use Rattle.rx_feed.specs.Streams.{IsCounted, IsFlow, IsFlowing, IsStream, SameFrames, standing_of, waiting_of}

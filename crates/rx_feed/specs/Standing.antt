@@ -9,7 +9,7 @@ use Rattle.pcap_in.specs.Classic.{IsCapture}
 use Rattle.pcap_in.specs.Faulty.{IsCaptureUpTo}
 use Rattle.pcap_in.specs.declared.judge.TheConstants.{HEADER_LEN, HEAD_LEN}
 use Rattle.pcap_in.specs.declared.pull.PcapFault.{PcapFault}
-use Rattle.ingress.specs.Limits.{IsSoundSoFar, IsWithinLimits, PassesLimit, bytes_of}
+use Rattle.rx_feed.specs.Limits.{IsSoundSoFar, IsWithinLimits, PassesLimit, bytes_of}
 use Rattle.rx_feed.specs.declared.fault.FeedFault.{FeedFault}
 use Rattle.rx_feed.specs.declared.fault.FeedFault.TheVariants.{Read, Capture, TooMany}
 use Rattle.rx_feed.specs.declared.stream.TheConstants.{PIECE_LEN}

@@ -4,9 +4,10 @@ use Rattle.onvm_base.specs.declared.frame.Frame.{Frame}
 use Rattle.pcap_in.specs.Calls.{HasRead}
 use Rattle.pcap_in.specs.Classic.{IsCapture}
 use Rattle.pcap_in.specs.Faulty.{IsCaptureUpTo}
-use Rattle.pcap_in.specs.Reading.{Reading}
+use Rattle.pcap_in.specs.Reading.{Pulls, Reading}
 use Rattle.pcap_in.specs.declared.pull.PcapFault.{PcapFault}
-use Rattle.ingress.specs.Limits.{IsSoundSoFar, IsWithinLimits, bytes_of}
+use Rattle.pcap_in.specs.declared.pull.Pull.TheVariants as pull
+use Rattle.rx_feed.specs.Limits.{IsSoundSoFar, IsWithinLimits, bytes_of}
 use Rattle.rx_feed.specs.History.{bytes_in, frames_in}
 use Rattle.rx_feed.specs.Standing.{IsStanding, Standing, most_unused, used_by}
 use Rattle.rx_feed.specs.declared.fault.FeedFault.{FeedFault}
@@ -15,6 +16,10 @@ use Rattle.rx_feed.specs.declared.stream.Answer.{Answer}
 use Rattle.rx_feed.specs.declared.stream.Answer.TheVariants as answer
 use Rattle.rx_feed.specs.declared.stream.Stream.{Stream}
 use Rattle.rx_feed.specs.declared.stream.TheConstants.{PIECE_LEN}
+
+-- the reader answers More: no frame and no fault stands among the bytes that it keeps
+abbrev pub WantsMore : Reading → Type 0
+WantsMore reading = Pulls reading pull.More reading
 
 -- the bytes that were taken and not fed yet
 abbrev pub waiting_of : Stream → List ℕ

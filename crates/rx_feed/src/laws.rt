@@ -2,10 +2,11 @@
 ghost use Rattle.std.specs.Prelude.{◌≡◌, ◌≢◌, ◌∷◌, ◌++◌, [], ℕ, List, Option, true, false, None, Some};
 ghost use Rattle.onvm_base.specs.declared.frame.Frame.{Frame};
 ghost use Rattle.onvm_host.specs.Deeds.{Amounts};
-ghost use Rattle.ingress.specs.Limits.{IsWithinLimits, PassesLimit};
 ghost use Rattle.pcap_in.specs.Classic.{IsCapture};
 ghost use Rattle.pcap_in.specs.Faulty.{IsCaptureUpTo};
 ghost use Rattle.pcap_in.specs.declared.pull.PcapFault.{PcapFault};
+ghost use Rattle.pcap_in.specs.declared.pull.PcapFault.TheVariants.{Torn};
+ghost use Rattle.rx_feed.specs.Limits.{IsSoundSoFar, IsWithinLimits, PassesLimit};
 ghost use Rattle.rx_feed.specs.Standing.{HasStopped, IsStanding, IsTakenSince, Standing};
 ghost use Rattle.rx_feed.specs.declared.fault.FeedFault.TheVariants.{Read, Capture, TooMany};
 
@@ -43,4 +44,12 @@ pub fn a_port_stops_where_its_capture_does()
     ensures too_many { (left : Option (List ℕ)) (takes takes' : Amounts) (s : Standing) (text : List ℕ)
         → IsStanding s → IsTakenSince (Some text) left takes takes' s → HasStopped s → s.fault ≢ Some Read
         → PassesLimit text → s.fault ≡ Some TooMany }
+{}
+
+/// The first bytes of a text that are sound so far have no fault but that they end early, and they
+/// pass no limit.
+pub fn sound_so_far()
+    ensures fault { (front : List ℕ) (frames : List Frame) (fault : PcapFault)
+        → IsSoundSoFar front → IsCaptureUpTo front frames fault → (at : ℕ) × (fault ≡ Torn at) }
+    ensures limit { (front : List ℕ) → IsSoundSoFar front → ¬ (PassesLimit front) }
 {}

@@ -5,7 +5,7 @@ ghost use Rattle.std.specs.Result.{result_ok};
 ghost use Rattle.std.specs.Bool.{OnFalse, OnTrue};
 ghost use Rattle.onvm_base.specs.declared.limits.TheConstants.{MAX_PORT_BYTES, MAX_PORT_FRAMES};
 ghost use Rattle.onvm_host.specs.Deeds.{Amounts};
-ghost use Rattle.ingress.specs.Fed.{WantsMore};
+ghost use Rattle.rx_feed.specs.Streams.{WantsMore};
 ghost use Rattle.rx_feed.specs.History.{bytes_in, frames_in};
 ghost use Rattle.rx_feed.specs.Standing.{HasStopped, IsTakenSince, StandsSoFar};
 ghost use Rattle.rx_feed.specs.Streams.{GoesOn, IsAnswer, IsFlowing, IsStream, SameFrames, failed, standing_of, waiting_of};

@@ -3,7 +3,7 @@ use Rattle.std.proofs.lemmas.List.{length-append}
 use Rattle.std.proofs.lemmas.List.Sums.{sum_by-append, sum_by-cons}
 use Rattle.onvm_base.specs.declared.frame.Frame.{Frame}
 use Rattle.onvm_base.specs.declared.limits.TheConstants.{MAX_PORT_BYTES, MAX_PORT_FRAMES}
-use Rattle.ingress.specs.Limits.{IsWithinLimits, bytes_of}
+use Rattle.rx_feed.specs.Limits.{IsWithinLimits, bytes_of}
 use Rattle.rx_feed.specs.History.{bytes_in, frames_in}
 use Rattle.rx_feed.specs.Streams.{IsFlow, waiting_of}
 use Rattle.rx_feed.proofs.Flowing.{passed_flow, too_large, within_more}

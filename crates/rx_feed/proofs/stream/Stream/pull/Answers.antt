@@ -2,7 +2,7 @@ use Rattle.std.proofs.Common.{◌≡◌, ◌∙◌, sym, ap, subst, refl, List, 
 use Rattle.onvm_base.specs.declared.frame.Frame.{Frame}
 use Rattle.pcap_in.specs.Reading.{Pulls, Reading}
 use Rattle.pcap_in.specs.declared.pull.Pull.TheVariants as pull
-use Rattle.ingress.specs.Fed.{WantsMore}
+use Rattle.rx_feed.specs.Streams.{WantsMore}
 use Rattle.rx_feed.specs.History.{bytes_in, frames_in}
 use Rattle.rx_feed.specs.Standing.{StandsSoFar}
 use Rattle.rx_feed.specs.Streams.{IsFlow, waiting_of}

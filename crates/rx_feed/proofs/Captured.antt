@@ -1,4 +1,4 @@
--- How long captures are that a port takes, and when one passes its limits.
+-- How long captures are that a port takes, and how little a reader keeps that wants more.
 use Rattle.std.proofs.Common.{◌≡◌, ◌∙◌, sym, ap, ◌⊎◌, inl, inr, ℕ, ◌+◌, ◌*◌, ◌<◌, List, [], ◌∷◌, ◌++◌, length, Some, None, append_assoc, arith}
 use Rattle.std.proofs.lemmas.List.{length-append}
 use Rattle.std.proofs.lemmas.List.Sums.{sum_by-append, sum_by-cons}
@@ -12,8 +12,8 @@ use Rattle.pcap_in.specs.declared.pull.Pull.TheVariants as pull
 use Rattle.pcap_in.specs.declared.spelling.Spelling.{Spelling}
 use Rattle.pcap_in.proofs.HasRead.{IsBehind-pulled}
 use Rattle.pcap_in.proofs.OneAnswer.{GivesFrame}
-use Rattle.ingress.specs.Fed.{WantsMore}
-use Rattle.ingress.specs.Limits.{bytes_of, record_limit, capture_limit, IsWithinLimits, PassesLimit}
+use Rattle.rx_feed.specs.Streams.{WantsMore}
+use Rattle.rx_feed.specs.Limits.{bytes_of, record_limit, IsWithinLimits, PassesLimit}
 
 -- the bytes of records
 length-AreRecords : (s : Spelling) (text : List ℕ) (frames : List Frame) → AreRecords s text frames
@@ -74,44 +74,3 @@ short-WantsMore reading wants = early_at reading wants.2
 pub inside-WantsMore : (reading : Reading) → WantsMore reading
     → (s : Spelling) → reading.spelling ≡ Some s → length reading.rest < record_limit
 inside-WantsMore reading wants = inside_at reading wants.2
-
--- each frame uses bytes of the rest
-used_at : (frame : Frame) (old new : Reading) → AtRecord old (GivesFrame frame new) → length new.rest < length old.rest
-used_at frame old new (inl (none, s, header, rest, text, is, (known, bytes, rest-is, record-is, place))) =
-    omega (
-      arith,
-      ap (length {A = ℕ}) text,
-      length-append header rest,
-      ap (length {A = ℕ}) rest-is,
-      length-append bytes new.rest,
-      record-is.size,
-    )
-used_at frame old new (inr (s, there, (known, bytes, rest-is, record-is, place))) =
-    omega (arith, ap (length {A = ℕ}) rest-is, length-append bytes new.rest, record-is.size)
-
-pub rest-pulled : (frame : Frame) (old new : Reading) → Pulls old (pull.Frame frame) new
-    → length new.rest < length old.rest
-rest-pulled frame old new pulls = used_at frame old new pulls.1
-
--- within the limits of a port no more is fed than this, with less than a header and a record to come
-pub HasRead-bound : (fed : List ℕ) (frames : List Frame) (reading : Reading)
-    → HasRead fed frames reading → IsWithinLimits frames → length reading.rest < HEADER_LEN + record_limit
-    → reading.place + length reading.rest < HEADER_LEN + capture_limit
-HasRead-bound fed frames reading (inl (none, zero, empty, fed-is)) within short = omega (arith, zero)
-HasRead-bound fed frames reading (inr behind) within short =
-    let size = length-IsCapture behind.spelling behind.used frames behind.is_capture in
-    omega (arith, behind.place, size, within.few, within.small)
-
--- a frame that passes a limit makes the text pass it
-pub PassesLimit-pulled : (fed more : List ℕ) (frames : List Frame) (frame : Frame) (old new : Reading)
-    → HasRead fed frames old → Pulls old (pull.Frame frame) new → ¬ (IsWithinLimits (frames ++ frame ∷ []))
-    → PassesLimit (fed ++ more)
-PassesLimit-pulled fed more frames frame old new read pulls large =
-    let behind = IsBehind-pulled fed frames frame old new read pulls in (
-      behind.used,
-      new.rest ++ more,
-      frames ++ frame ∷ [],
-      ap (λ t. t ++ more) behind.fed_is ∙ append_assoc behind.used new.rest more,
-      (behind.spelling, behind.is_capture),
-      large,
-    )

@@ -32,7 +32,3 @@ IsSoundSoFar front =
 -- the most bytes of a record: of its head and of a frame
 abbrev pub record_limit : ℕ
 record_limit = HEAD_LEN + MAX_FRAME_BYTES
-
--- the bytes of a header, of the frames that a port takes with their heads, and of one record more
-abbrev pub capture_limit : ℕ
-capture_limit = HEADER_LEN + HEAD_LEN * (MAX_PORT_FRAMES + 1) + MAX_PORT_BYTES + MAX_FRAME_BYTES

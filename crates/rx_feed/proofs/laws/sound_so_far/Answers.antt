@@ -1,5 +1,5 @@
-use Rattle.ingress.proofs.Sound.{only_torn, passes_none}
-use Rattle.ingress.proofs.laws.sound_so_far.Goals as goal
+use Rattle.rx_feed.proofs.Sound.{only_torn, passes_none}
+use Rattle.rx_feed.proofs.laws.sound_so_far.Goals as goal
 
 pub returns-clause-fault : goal.returns-clause-fault
 returns-clause-fault c = only_torn

@@ -9,9 +9,9 @@ use Rattle.pcap_in.specs.declared.pull.PcapFault.{PcapFault}
 use Rattle.pcap_in.specs.declared.pull.PcapFault.TheVariants.{Torn}
 use Rattle.pcap_in.proofs.Faults.{capture_first, fault_once, no_fault, up_to_first}
 use Rattle.pcap_in.proofs.HasRead.{HasRead-fed, IsCapture-ended, IsCaptureUpTo-met}
-use Rattle.ingress.specs.Fed.{WantsMore}
-use Rattle.ingress.specs.Limits.{IsSoundSoFar, IsWithinLimits, PassesLimit}
-use Rattle.ingress.proofs.Captured.{within_first}
+use Rattle.rx_feed.specs.Streams.{WantsMore}
+use Rattle.rx_feed.specs.Limits.{IsSoundSoFar, IsWithinLimits, PassesLimit}
+use Rattle.rx_feed.proofs.Captured.{within_first}
 
 -- the same reader, with nothing more to come
 ended : Reading → Reading
