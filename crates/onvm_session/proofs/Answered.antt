@@ -6,6 +6,7 @@ use Rattle.onvm_base.specs.declared.limits.TheConstants.{MAX_PORT_FRAMES}
 use Rattle.onvm_base.specs.declared.plan.Plan.{Plan}
 use Rattle.onvm_core.specs.Layouts.{IsLayoutOf}
 use Rattle.onvm_core.specs.Logs.{Setting, entries_of_port}
+use Rattle.onvm_core.specs.Settings.{frame_count}
 use Rattle.onvm_host.specs.Deeds.{Amounts}
 use Rattle.nf_api.specs.Acts.{Acts}
 use Rattle.nf_api.specs.Tree.{Tree}
@@ -23,6 +24,7 @@ use Rattle.onvm_session.specs.declared.role.Role.TheVariants.{Receive, Send, Han
 use Rattle.onvm_session.specs.declared.run.Run.{Run}
 use Rattle.onvm_session.specs.declared.run.Stop.{Stop}
 use Rattle.onvm_session.proofs.Beginnings.{new_underway}
+use Rattle.onvm_session.proofs.Counting.{frames_counted}
 use Rattle.onvm_session.proofs.Growing.{all_earlier, got_none, got_some}
 use Rattle.onvm_session.proofs.HandingBack.{receives_below}
 use Rattle.onvm_session.proofs.OwnRuns.{own_run, own_run_is}
@@ -32,7 +34,7 @@ use Rattle.onvm_session.specs.Leaving.{feeds_of}
 use Rattle.onvm_session.specs.Managers.{AllGrow, FitsAll, GoesOn, HasFault, IsOver, IsUnderway}
 use Rattle.onvm_session.specs.RoleStates.{FitsOne, acts_by, fault_of, standing_of, start_by}
 use Rattle.onvm_session.specs.Rooms.{IsNewManager}
-use Rattle.onvm_session.specs.Runs.{AreHandedBack, HasStopped, IsDone, IsStop, StandsWith, any_moment, told_fault, view_of_run}
+use Rattle.onvm_session.specs.Runs.{AllStand, AreHandedBack, HasStopped, IsDone, IsStop, StandsWith, any_moment, told_fault, view_of_run}
 
 -- where a port stands
 abbrev pub standing_at : {I N : Type 0} → Option (Role I N) → Standing
@@ -131,6 +133,15 @@ module _ {I N : Type 0} (name_of : I → List ℕ) (left_of : I → Option (List
   role_at : (port : ℕ) → port < plan.ports → (role : Role I N) × (slice_get manager.roles.items port ≡ Some role)
   role_at port known = got_some manager.roles.items port (omega (arith, known, tended.many, tended.layout_of.ports))
 
+  all_stand : AllStand name_of left_of takes_of plan given (manager.feeds.items ++ feeds_of manager.roles.items)
+  all_stand = record {
+    stand = λ port known.
+        let at = role_at port known in (
+          standing_of at.0,
+          stands_at name_of left_of takes_of plan given manager tended few port at.0 at.1 known,
+        );
+  }
+
   pub done : (acts : N → Acts) (state : N → Tree) (units : List N) (first : Manager I N) (run : Run)
       → IsNewManager name_of left_of takes_of acts state plan units given first
       → AllGrow name_of left_of takes_of first manager
@@ -140,9 +151,10 @@ module _ {I N : Type 0} (name_of : I → List ℕ) (left_of : I → Option (List
       → IsUnderway acts state true any_moment is_cost 0 units setting manager
       → IsAccounted true any_moment is_cost (acts_by acts state units) (start_by acts state units) setting
       (view_of_run run))
+      → ((setting : Setting) → FitsAll plan setting manager → length run.records ≡ frame_count setting)
       → IsDone name_of left_of takes_of (acts_by acts state units) (start_by acts state units) plan given
       (manager.feeds.items ++ feeds_of manager.roles.items) run
-  done acts state units first run new grow on over accounted = record {
+  done acts state units first run new grow on over accounted counted = record {
     standings = standings_in manager;
     stand = λ port known.
         let at = role_at port known in
@@ -162,6 +174,7 @@ module _ {I N : Type 0} (name_of : I → List ℕ) (left_of : I → Option (List
         (on.on 0 units setting fits
         (new_underway name_of left_of takes_of acts state plan units given first new setting
         (all_earlier name_of left_of takes_of plan setting first manager grow fits)));
+    counted = λ setting is. counted setting (fits_over over setting is) ∙ frames_counted setting is.setting_is;
   }
 
   -- A session that a fault stopped
@@ -213,13 +226,15 @@ module _ {I N : Type 0} (name_of : I → List ℕ) (left_of : I → Option (List
       → IsUnderway acts state true any_moment is_cost 0 units setting manager
       → IsAccounted true any_moment is_cost (acts_by acts state units) (start_by acts state units) setting
       (view_of_run run))
+      → IfOk outcome (λ run. (setting : Setting) → FitsAll plan setting manager
+      → length run.records ≡ frame_count setting)
       → IfOk outcome (λ run. IsDone name_of left_of takes_of (acts_by acts state units) (start_by acts state units) plan
       given back run)
-  all_done acts state units first (Ok run) back new grow on over is accounted =
+  all_done acts state units first (Ok run) back new grow on over is accounted counted =
       subst (λ (feeds : List (Feed I)). IsDone name_of left_of takes_of (acts_by acts state units)
       (start_by acts state units) plan given feeds run) (sym is)
-      (done acts state units first run new grow on over accounted)
-  all_done acts state units first (Err stop) back new grow on over is accounted = accounted
+      (done acts state units first run new grow on over accounted counted)
+  all_done acts state units first (Err stop) back new grow on over is accounted counted = tt
 
   pub stopped_as : (stop : Stop) (outcome : Result Run Stop) (back : List (Feed I)) → outcome ≡ Err stop
       → back ≡ manager.feeds.items ++ feeds_of manager.roles.items
@@ -235,3 +250,8 @@ module _ {I N : Type 0} (name_of : I → List ℕ) (left_of : I → Option (List
   back_as back is =
       subst (λ (feeds : List (Feed I)). AreHandedBack name_of given feeds) (sym is)
       (back_again name_of left_of takes_of plan given manager tended few)
+
+  pub stand_as : (back : List (Feed I)) → back ≡ manager.feeds.items ++ feeds_of manager.roles.items
+      → AllStand name_of left_of takes_of plan given back
+  stand_as back is =
+      subst (λ (feeds : List (Feed I)). AllStand name_of left_of takes_of plan given feeds) (sym is) all_stand

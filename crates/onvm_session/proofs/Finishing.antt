@@ -1,7 +1,8 @@
 -- What stands at the end of a session is what the headline asks for.
-use Rattle.std.proofs.Common.{◌≡◌, ℕ, ◌-◌, ◌<◌, Bool, true, false, List, [], length, refl, sym, ◌∙◌, ap, subst, arith, Some, None, Option}
+use Rattle.std.proofs.Common.{◌≡◌, ℕ, ◌+◌, ◌-◌, ◌<◌, Bool, true, false, List, [], length, refl, sym, ◌∙◌, ap, subst, arith, Some, None, Option}
 use Rattle.std.specs.Prelude.{IfOk, OnOk, Result, Ok, Err, is_err, slice_get, slice_index_or}
 use Rattle.std.proofs.lemmas.List.{length-set}
+use Rattle.std.proofs.lemmas.List.Sorted.{length_permutation}
 use Rattle.load_estimate.specs.declared.tick.Tick.{Tick as TickView}
 use Rattle.nf_api.specs.Acts.{Acts}
 use Rattle.nf_api.specs.Tree.{Tree}
@@ -28,6 +29,7 @@ use Rattle.onvm_session.specs.declared.role.Role.TheVariants.{Receive, Send, Han
 use Rattle.onvm_session.specs.declared.run.Run.{Run}
 use Rattle.onvm_session.specs.declared.run.Stop.{Stop}
 use Rattle.onvm_session.proofs.Boarding.{closed_is}
+use Rattle.onvm_session.proofs.Counting.{feeders_long}
 use Rattle.onvm_session.proofs.Done.{done}
 use Rattle.onvm_session.proofs.Growing.{got_some}
 use Rattle.onvm_session.proofs.RolePasses.{ready_kind, setting_is}
@@ -38,7 +40,7 @@ use Rattle.onvm_session.specs.Accounts.{IsAccounted}
 use Rattle.onvm_session.specs.Boards.{view_of_closed, view_of_token}
 use Rattle.onvm_session.specs.Closings.{IsClosingTurn, IsRunOfKept, IsRunOfLists}
 use Rattle.onvm_session.specs.Endings.{Closes, IsClosed}
-use Rattle.onvm_session.specs.Gathering.{AreRunLists, recorded_count}
+use Rattle.onvm_session.specs.Gathering.{AreRunLists, feeders_kept, recorded_count}
 use Rattle.onvm_session.specs.Managers.{FitsAll, IsManager, IsOver, IsUnderway, keeps_at, keeps_in, place_now, pulled_at, round_now, states_in}
 use Rattle.onvm_session.specs.Moments.{moment_of_round}
 use Rattle.onvm_session.specs.RoleStates.{FitsOne, acts_by, ended_in, keeps_of, kind_in, pulled_in, start_by}
@@ -205,6 +207,19 @@ module _ {I N : Type 0} (acts : N → Acts) (state : N → Tree) (plan : Plan) (
                 (keeps_of {I = I} {N = N} (Tick turn.after)) (view_of_run run) manager.ranges fits.is closes is_closed
                 ∙ frames_are entries over fits)
 
+        -- as many records as frames
+        counted : IsOver old → (setting : Setting) → FitsAll plan setting old
+            → length run.records ≡ frame_count setting
+        counted over setting fits =
+            let layout = old.board.layout in
+            let told = feeders_kept (λ kept. kept.outcomes.records) (keeps_in old.roles.items)
+            (layout.ports + layout.transmit) in
+            length_permutation told run.records lists.records.same
+            ∙ feeders_long (λ kept. kept.outcomes.records) (keeps_in old.roles.items) (layout.ports + layout.transmit)
+            ∙ subst (λ (s : Setting). FitsAll plan s old → recorded_count layout (keeps_in old.roles.items) ≡ frame_count s)
+            (setting_is layout plan setting fits.layout_is fits.plan_is)
+            (λ fits. frames_are setting.entries over fits) fits
+
         -- of any setting of the layout and plan
         finished : place_now old ≡ 0 → 0 < round_now old → now ≡ moment_of_round (round_now old - 1)
             → IsOver old
@@ -233,3 +248,14 @@ module _ {I N : Type 0} (acts : N → Acts) (state : N → Tree) (plan : Plan) (
     all_finished now none left closed turn board gone place some at over (Ok run) of =
         finished now none left closed turn board gone run of.0 of.1 place some at over
     all_finished now none left closed turn board gone place some at over (Err stop) of = tt
+
+    pub all_counted : (now : ℕ) (none left : Leavings I) (closed : ClosedView)
+        → IsClosingTurn plan now old new → IsBoardOf new closed → AreLeftOf new.roles.items none left
+        → IsOver old
+        → (outcome : Result Run Stop)
+        → IsRunOfLists left.complete left.gathered left.samples left.ticks closed outcome
+        → IfOk outcome (λ run. (setting : Setting) → FitsAll plan setting old
+        → length run.records ≡ frame_count setting)
+    all_counted now none left closed turn board gone over (Ok run) of =
+        counted now none left closed turn board gone run of.0 of.1 over
+    all_counted now none left closed turn board gone over (Err stop) of = tt

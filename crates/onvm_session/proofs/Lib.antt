@@ -4,6 +4,7 @@ pub mod Ascending
 pub mod Beginnings
 pub mod Boarding
 pub mod Closing
+pub mod Counting
 pub mod Done
 pub mod Draining
 pub mod ExampleAccount
@@ -60,5 +61,6 @@ pub mod Tending
 pub mod TickTurns
 pub mod Turning
 pub mod UnitLists
+pub mod Unread
 pub mod Weaving
 pub mod WrongRuns

@@ -1,5 +1,5 @@
 -- The frames that were pulled make a run of the plan.
-use Rattle.std.proofs.Common.{◌≡◌, ◌≢◌, ℕ, zero, suc, ◌+◌, ◌<◌, ◌≤◌, inl, inr, List, [], ◌∷◌, ◌++◌, length, refl, sym, ◌∙◌, ap, subst, arith, append-nil, Some}
+use Rattle.std.proofs.Common.{◌≡◌, ◌≢◌, ℕ, zero, suc, ◌+◌, ◌<◌, ◌≤◌, inl, inr, List, [], ◌∷◌, ◌++◌, length, refl, sym, ◌∙◌, ap, arith, append-nil, Some}
 use Rattle.std.specs.Prelude.{All, ◌==◌, nat_lt, slice_get}
 use Rattle.std.proofs.lemmas.Bool.{cases_Bool, eq-eqb, ltb-false, ltb-true, ne_eqb}
 use Rattle.std.proofs.lemmas.Bool.Decides.{eqb_tells}
@@ -12,8 +12,7 @@ use Rattle.onvm_core.specs.declared.entry.Entry.{Entry}
 use Rattle.onvm_core.specs.declared.layout.Layout.{Layout}
 use Rattle.onvm_core.proofs.Lists.{if_met, if_unmet}
 use Rattle.onvm_core.specs.Layouts.{IsLayoutOf}
-use Rattle.onvm_core.specs.Logs.{Setting, IsNumbered, entries_of_port}
-use Rattle.onvm_core.specs.Settings.{IsSetting}
+use Rattle.onvm_core.specs.Logs.{Setting, entries_of_port}
 use Rattle.onvm_packet.specs.Heads.{heads_of}
 use Rattle.onvm_promises.specs.Entries.{IsRunOf, entries_from, entry_of}
 use Rattle.rx_pass.proofs.Entering.{chain_known}

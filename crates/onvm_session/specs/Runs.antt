@@ -55,6 +55,10 @@ module _ {I : Type 0} (name_of : I → List ℕ) (left_of : I → Option (List �
   StandsWith feeds back port standing =
       IsFedBy name_of left_of takes_of (slice_get feeds port) (slice_get back port) standing
 
+  -- whatever came of the session, each port stands with its feed as the bytes and the takes of that tell
+  pub record AllStand (plan : Plan) (feeds back : List (Feed I)) : Type 0 where
+    pub stand : (port : ℕ) → port < plan.ports → (s : Standing) × StandsWith feeds back port s
+
   -- each capture was pulled to its end, and each frame is accounted for
   pub record IsDone {S : Type 0} (acts : ℕ → S → Handling → S → Type 0) (start : ℕ → S) (plan : Plan)
       (feeds back : List (Feed I)) (run : Run) : Type 0 where
@@ -65,6 +69,9 @@ module _ {I : Type 0} (name_of : I → List ℕ) (left_of : I → Option (List �
     pub run_is : (setting : Setting) × IsRunOf plan (λ port. (standings port).pulled) setting
     pub accounted : (setting : Setting) → IsRunOf plan (λ port. (standings port).pulled) setting
         → IsAccounted true any_moment is_cost acts start setting (view_of_run run)
+    -- as many records as frames
+    pub counted : (setting : Setting) → IsRunOf plan (λ port. (standings port).pulled) setting
+        → length run.records ≡ length setting.entries
 
   -- the lowest port that has a fault is told, with the first fault in its bytes; the captures of lower ports were read to
   -- their ends

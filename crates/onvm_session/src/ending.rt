@@ -1,6 +1,7 @@
 //! How a session ends.
 ghost use Rattle.std.specs.Prelude.{◌≡◌, ◌+◌, ◌-◌, ◌<◌, ◌≤◌, ◌++◌, ℕ, Err, IfErr, IfOk, IsSome, List, OnErr, OnOk, Some, length, slice_get, true, vec_capacity, vec_len};
 ghost use Rattle.onvm_core.specs.Logs.{Setting};
+ghost use Rattle.onvm_core.specs.Settings.{frame_count};
 ghost use Rattle.onvm_promises.specs.Sampling.{is_cost};
 ghost use Rattle.rx_feed.specs.declared.fault.FeedFault.{FeedFault as FaultView};
 ghost use Rattle.onvm_session.specs.Accounts.{IsAccounted};
@@ -166,6 +167,8 @@ impl<I: Source + Drop, N: NetFunction> Manager<I, N> {
             → IsUnderway N.acts N.state true any_moment is_cost 0 units setting self
             → IsAccounted true any_moment is_cost (acts_by N.acts N.state units) (start_by N.acts N.state units)
             setting (view_of_run run)) }
+        ensures counted { IfOk result.outcome (λ run. (setting : Setting) → FitsAll plan.now setting self
+            → length run.records ≡ frame_count setting) }
     {
         if self.closing_turn(plan, now).is_err() {
             return self.hand_back(alloc, Stop::Memory);

@@ -18,8 +18,6 @@ mod role;
 mod rooms;
 mod run;
 mod surroundings;
-#[cfg(test)]
-mod tests;
 
 pub use lists::{Gathered, RunLists};
 pub use run::{Counters, Ended, Feeds, Run, Stop, session};

@@ -2,7 +2,7 @@
 ghost use Rattle.std.specs.Prelude.{◌≡◌, ◌≢◌, ◌≤◌, IfErr, IfOk, length};
 ghost use Rattle.onvm_session.specs.RoleStates.{acts_by, start_by};
 ghost use Rattle.onvm_session.specs.Rooms.{AreFresh};
-ghost use Rattle.onvm_session.specs.Runs.{AreHandedBack, IsDone, IsStop, told_fault};
+ghost use Rattle.onvm_session.specs.Runs.{AllStand, AreHandedBack, IsDone, IsStop, told_fault};
 
 use crate::manager::Halt;
 use crate::rooms::Beginning;
@@ -95,6 +95,7 @@ pub fn session<R: Wait, I: Source + Drop, N: NetFunction>(
     requires feeds { length feeds ≤ plan.now.ports }
     requires fresh { AreFresh feeds }
     ensures handed_back { AreHandedBack I.name feeds result.feeds }
+    ensures stands { AllStand I.name I.left I.takes plan.now feeds result.feeds }
     ensures done { IfOk result.outcome (λ run. IsDone I.name I.left I.takes (acts_by N.acts N.state units)
         (start_by N.acts N.state units) plan.now feeds result.feeds run) }
     ensures stopped { IfErr result.outcome (λ stop. IsStop I.name I.left I.takes plan.now feeds result.feeds stop) }

@@ -1,8 +1,9 @@
 use Rattle.std.proofs.Common.{◌∙◌, ap}
 use Rattle.std.specs.Prelude.{Err}
-use Rattle.onvm_session.proofs.Answered.{all_done, back_as, stopped_as}
+use Rattle.onvm_session.proofs.Answered.{all_done, back_as, stand_as, stopped_as}
 use Rattle.onvm_session.proofs.Beginnings.{new_manager}
 use Rattle.onvm_session.proofs.Tending.{room_back, tended_first, tended_then}
+use Rattle.onvm_session.proofs.Unread.{all_fresh}
 use Rattle.onvm_session.proofs.run.session.Goals as goal
 
 pub make_rounds-requires-clause-manager : goal.make_rounds-requires-clause-manager
@@ -38,9 +39,19 @@ hand_back-requires-in-Err-Fault g c = record {
       (tended_first _ _ _ _ _ _ _ c.args.units c.start-manager.result c.start-manager.ensures))) c.requires.feeds;
 }
 
+pub returns-in_default-clause-stands : goal.returns-in_default-clause-stands
+returns-in_default-clause-stands g c = all_fresh _ _ _ c.args.plan.now c.args.feeds c.requires.fresh
+
 pub returns-in-Ok-make_rounds-clause-handed_back : goal.returns-in-Ok-make_rounds-clause-handed_back
 returns-in-Ok-make_rounds-clause-handed_back g c =
     back_as _ _ _ c.args.plan.now c.args.feeds c.make_rounds.new.self
+    (tended_then _ _ _ _ _ c.start-manager.result c.make_rounds.new.self c.make_rounds.ensures.grow
+    (tended_first _ _ _ _ _ _ _ c.args.units c.start-manager.result c.start-manager.ensures)) c.requires.feeds
+    c.finish.result.feeds c.finish.ensures.feeds
+
+pub returns-in-Ok-make_rounds-clause-stands : goal.returns-in-Ok-make_rounds-clause-stands
+returns-in-Ok-make_rounds-clause-stands g c =
+    stand_as _ _ _ c.args.plan.now c.args.feeds c.make_rounds.new.self
     (tended_then _ _ _ _ _ c.start-manager.result c.make_rounds.new.self c.make_rounds.ensures.grow
     (tended_first _ _ _ _ _ _ _ c.args.units c.start-manager.result c.start-manager.ensures)) c.requires.feeds
     c.finish.result.feeds c.finish.ensures.feeds
@@ -52,7 +63,7 @@ returns-in-Ok-make_rounds-clause-done g c =
     (tended_first _ _ _ _ _ _ _ c.args.units c.start-manager.result c.start-manager.ensures)) c.requires.feeds _ _
     c.args.units c.start-manager.result c.finish.result.outcome c.finish.result.feeds c.start-manager.ensures
     c.make_rounds.ensures.grow c.in-Ok-make_rounds.ensures.on c.in-Ok-make_rounds.ensures.over c.finish.ensures.feeds
-    c.finish.ensures.done
+    c.finish.ensures.done c.finish.ensures.counted
 
 pub returns-in-Err-Memory-clause-handed_back : goal.returns-in-Err-Memory-clause-handed_back
 returns-in-Err-Memory-clause-handed_back g c =
@@ -61,9 +72,24 @@ returns-in-Err-Memory-clause-handed_back g c =
     (tended_first _ _ _ _ _ _ _ c.args.units c.start-manager.result c.start-manager.ensures)) c.requires.feeds
     c.hand_back.result.feeds c.hand_back.ensures.feeds
 
+pub returns-in-Err-Memory-clause-stands : goal.returns-in-Err-Memory-clause-stands
+returns-in-Err-Memory-clause-stands g c =
+    stand_as _ _ _ c.args.plan.now c.args.feeds c.make_rounds.new.self
+    (tended_then _ _ _ _ _ c.start-manager.result c.make_rounds.new.self c.make_rounds.ensures.grow
+    (tended_first _ _ _ _ _ _ _ c.args.units c.start-manager.result c.start-manager.ensures)) c.requires.feeds
+    c.hand_back.result.feeds c.hand_back.ensures.feeds
+
 pub returns-in-Err-Fault-clause-handed_back : goal.returns-in-Err-Fault-clause-handed_back
 returns-in-Err-Fault-clause-handed_back g c =
     back_as _ _ _ c.args.plan.now c.args.feeds c.find_fault-stop.new.self
+    (tended_then _ _ _ _ _ c.make_rounds.new.self c.find_fault-stop.new.self c.find_fault-stop.ensures.grow
+    (tended_then _ _ _ _ _ c.start-manager.result c.make_rounds.new.self c.make_rounds.ensures.grow
+    (tended_first _ _ _ _ _ _ _ c.args.units c.start-manager.result c.start-manager.ensures))) c.requires.feeds
+    c.hand_back-in-Err-Fault.result.feeds c.hand_back-in-Err-Fault.ensures.feeds
+
+pub returns-in-Err-Fault-clause-stands : goal.returns-in-Err-Fault-clause-stands
+returns-in-Err-Fault-clause-stands g c =
+    stand_as _ _ _ c.args.plan.now c.args.feeds c.find_fault-stop.new.self
     (tended_then _ _ _ _ _ c.make_rounds.new.self c.find_fault-stop.new.self c.find_fault-stop.ensures.grow
     (tended_then _ _ _ _ _ c.start-manager.result c.make_rounds.new.self c.make_rounds.ensures.grow
     (tended_first _ _ _ _ _ _ _ c.args.units c.start-manager.result c.start-manager.ensures))) c.requires.feeds

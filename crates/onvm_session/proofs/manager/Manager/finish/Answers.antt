@@ -1,8 +1,9 @@
 -- The closing turn, the closed board and what the roles left are those of a session that is accounted for.
 use Rattle.std.proofs.Common.{◌∙◌, ◌++◌, Vec, Global, ap, sym}
 use Rattle.rx_feed.specs.declared.feed.Feed.{Feed}
-use Rattle.onvm_session.proofs.Finishing.{all_finished, when_ok}
-use Rattle.onvm_session.proofs.PutTogether.{feeds_left}
+use Rattle.onvm_session.proofs.Finishing.{IsBoardOf, all_counted, all_finished, when_ok}
+use Rattle.onvm_session.proofs.PutTogether.{AreLeftOf, feeds_left}
+use Rattle.onvm_session.proofs.manager.Manager.finish.Given.{Over}
 use Rattle.onvm_session.proofs.manager.Manager.finish.Goals as goal
 
 pub close-closed-requires-clause-joined : goal.close-closed-requires-clause-joined
@@ -18,24 +19,36 @@ returns-clause-feeds g c =
     (c.make-leavings.ensures.feeds ∙ c.closing_turn.ensures.feeds.1) i
     ++ c.closing_turn.ensures.feeds.0 i)
 
+board_of : (g : Over) (c : goal.After-drop-self-4 g) → IsBoardOf c.closing_turn.new.self c.close-closed.result
+board_of g c = record {
+  layout = c.close-closed.ensures.layout;
+  log = c.close-closed.ensures.log;
+  logs = c.close-closed.ensures.logs;
+  counts = c.close-closed.ensures.counts;
+  history = c.close-closed.ensures.history;
+}
+
+left_of : (g : Over) (c : goal.After-drop-self-4 g)
+    → AreLeftOf c.closing_turn.new.self.roles.items c.make-leavings.result c.add_all.new.self
+left_of g c = record {
+  records = c.make-leavings.ensures.records;
+  sent = c.make-leavings.ensures.sent;
+  posts = c.make-leavings.ensures.posts;
+  yields = c.make-leavings.ensures.yields.0;
+  lost = c.make-leavings.ensures.yields.1;
+  left_are = c.add_all.ensures.left;
+}
+
 pub returns-clause-done : goal.returns-clause-done
 returns-clause-done g c =
     all_finished _ _ c.args.plan.now c.args.self c.closing_turn.new.self c.requires.manager c.args.now
     c.make-leavings.result c.add_all.new.self c.close-closed.result
     (when_ok c.closing_turn.result (sym c.is_err.ensures.value ∙ c.if-is_err.false) c.closing_turn.ensures.turn)
-    (record {
-      layout = c.close-closed.ensures.layout;
-      log = c.close-closed.ensures.log;
-      logs = c.close-closed.ensures.logs;
-      counts = c.close-closed.ensures.counts;
-      history = c.close-closed.ensures.history;
-    })
-    (record {
-      records = c.make-leavings.ensures.records;
-      sent = c.make-leavings.ensures.sent;
-      posts = c.make-leavings.ensures.posts;
-      yields = c.make-leavings.ensures.yields.0;
-      lost = c.make-leavings.ensures.yields.1;
-      left_are = c.add_all.ensures.left;
-    })
-    c.requires.place c.requires.some c.requires.now c.requires.over c.end.result.outcome c.end.ensures.run
+    (board_of g c) (left_of g c) c.requires.place c.requires.some c.requires.now c.requires.over c.end.result.outcome c.end.ensures.run
+
+pub returns-clause-counted : goal.returns-clause-counted
+returns-clause-counted g c =
+    all_counted _ _ c.args.plan.now c.args.self c.closing_turn.new.self c.requires.manager c.args.now
+    c.make-leavings.result c.add_all.new.self c.close-closed.result
+    (when_ok c.closing_turn.result (sym c.is_err.ensures.value ∙ c.if-is_err.false) c.closing_turn.ensures.turn)
+    (board_of g c) (left_of g c) c.requires.over c.end.result.outcome c.end.ensures.run

@@ -1,4 +1,4 @@
-//! Sessions of chain files, and what is told of them.
+//! Calls of `session` with chain files, and short names for what they tell.
 ghost use Rattle.std.specs.Prelude.{◌≡◌, [], IfOk, OnOk, Some, false};
 ghost use Rattle.chain_file.specs.Guests.{HasGuest, HaveGuests};
 ghost use Rattle.rx_feed.specs.Feeds.{IsFreshFeed};
@@ -6,7 +6,6 @@ ghost use Rattle.onvm_session.specs.Rooms.{AreFresh};
 
 use super::captures::{FRAME, capture, feed_of};
 use super::plans::one_function;
-use crate::{Ended, Feeds, Run, session};
 use chain_file::read;
 use load_estimate::{Share, TickLine};
 use nf_api::NetFunction;
@@ -15,6 +14,7 @@ use onvm_base::{
     FnId, FrameId, FunctionPlan, Kind, ListOf, NoMemory, Outcome, Plan, PortId, Post, Record,
 };
 use onvm_host::MemInput;
+use onvm_session::{Ended, Feeds, Run, session};
 use rx_feed::Feed;
 use std::alloc::Global;
 use std::sync::Wait;

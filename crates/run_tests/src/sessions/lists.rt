@@ -1,10 +1,10 @@
 //! Lists that were put together by hand.
 
-use crate::{Gathered, RunLists};
 use onvm_base::{
     FrameId, NoMemory, Outcome, Packet, PortId, Post, Posts, Record, Records, SentFrame,
     SentFrames, Stamp,
 };
+use onvm_session::{Gathered, RunLists};
 use std::alloc::Global;
 use std::test::Fail;
 

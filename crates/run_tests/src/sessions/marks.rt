@@ -3,9 +3,9 @@
 //! The function handles one frame a round, and a burst has eight frames: behind round r its lane has
 //! 7 - r of the first burst left.
 
+use super::calls::{F, one, post, record, run_of, run_of_equal, sent};
 use super::captures::{FRAME, OTHER, capture, feed_of};
 use super::plans::{MARKED, SLOW, two_functions};
-use super::sessions::{F, one, post, record, run_of, run_of_equal, sent};
 use onvm_base::{Outcome, Record};
 use std::test::Fail;
 

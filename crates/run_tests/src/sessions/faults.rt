@@ -1,12 +1,12 @@
 //! Sessions that stop.
 
+use super::calls::{add, end_of, end_with, none, one, plan_of};
 use super::captures::{FRAME, capture, cut, feed_of};
 use super::plans::{FORWARD, TWO_PORTS, one_function};
-use super::sessions::{add, end_of, end_with, none, one, plan_of};
-use crate::{Ended, Stop};
 use nf_api::{Meta, NetFunction};
 use onvm_base::{ListOf, NoMemory, Packet, PortId, Verdict};
 use onvm_host::{MemInput, Source};
+use onvm_session::{Ended, Stop};
 use pcap_in::PcapFault;
 use rx_feed::{Feed, Generator};
 use std::alloc::Global;

@@ -1,8 +1,8 @@
 //! Ticks, and the shares that cores are divided by.
 
+use super::calls::{F, G, IDLE, line, one, run_of};
 use super::captures::{FRAME, OTHER, capture, feed_of};
 use super::plans::{FORWARD, two_functions};
-use super::sessions::{F, G, IDLE, line, one, run_of};
 use load_estimate::{Sample, TickLine};
 use onvm_base::FnId;
 use std::test::Fail;

@@ -1,8 +1,8 @@
 //! Sessions of several ports, and of made frames.
 
+use super::calls::{add, line, none, one, record, run_of, sent};
 use super::captures::{FRAME, capture, feed_of};
 use super::plans::{FORWARD, FOUR_PORTS, LONG_CHAIN, TWO_PORTS, one_function};
-use super::sessions::{add, line, none, one, record, run_of, sent};
 use onvm_base::{Outcome, Record};
 use rx_feed::{Feed, Generator};
 use std::test::Fail;

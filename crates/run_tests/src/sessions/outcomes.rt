@@ -1,8 +1,8 @@
 //! What becomes of frames.
 
+use super::calls::{F, IDLE, line, one, record, run_of, run_of_equal, run_of_one, sent};
 use super::captures::{FRAME, capture, feed_of};
 use super::plans::{FORWARD, sixteen_functions};
-use super::sessions::{F, IDLE, line, one, record, run_of, run_of_equal, run_of_one, sent};
 use load_estimate::Sample;
 use onvm_base::{FnId, Outcome, RingId, Stamp, Why};
 use onvm_host::Source;

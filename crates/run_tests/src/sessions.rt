@@ -1,5 +1,6 @@
 //! Sessions over a board, and lists that were put together by hand.
 
+mod calls;
 mod captures;
 mod faults;
 mod lists;
@@ -8,5 +9,4 @@ mod outcomes;
 mod passes;
 mod plans;
 mod ports;
-mod sessions;
 mod shares;
