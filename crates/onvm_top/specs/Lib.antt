@@ -1,4 +1,5 @@
 pub mod Accounts
+pub mod Answers
 pub mod Calls
 pub mod Captures
 pub mod Chains

@@ -72,19 +72,19 @@ StopsAtOutput name text report told told_now said deeds fault =
     ⊎ ((fault ≡ Write) × Then (Writes (length text) name) (CannotSay (length report)) deeds
     × Leaves name text told told_now × ((rest : List ℕ) × (report ≡ said ++ rest)))
 
+-- before a run was there, where these are the guests' names. Want of memory may be met while the words are read
+abbrev pub IsStoppedEarly : (words guests : List (List ℕ)) → Option Entries → List Deed → Fault → Type 0
+IsStoppedEarly words guests told deeds fault =
+    ((fault ≡ Words) × IsNoCommand words × (deeds ≡ []))
+    ⊎ ((fault ≡ Memory) × (deeds ≡ []))
+    ⊎ ((command : Command) × IsCommand words command × StopsAtChain command guests told deeds fault)
+    ⊎ ((command : Command) × IsCommand words command
+    × ((plan : Plan) × OnTold told (λ files. HasPlan command guests files plan))
+    × Then (ReadsChain command.chain.now) (λ rest. StopsAtCaptures command.captures.items told rest fault) deeds)
+
 -- A guest does this, and has this state
 module _ {V : Type 0} {F : V → Type 0} (guest_acts : Guest V F → Acts) (guest_state : Guest V F → Tree)
     (words : List (List ℕ)) (guests : List (Guest V F)) where
-  -- before a run was there. Want of memory may be met while the words are read
-  abbrev pub IsStoppedEarly : Option Entries → List Deed → Fault → Type 0
-  IsStoppedEarly told deeds fault =
-      ((fault ≡ Words) × IsNoCommand words × (deeds ≡ []))
-      ⊎ ((fault ≡ Memory) × (deeds ≡ []))
-      ⊎ ((command : Command) × IsCommand words command × StopsAtChain command (names_of guests) told deeds fault)
-      ⊎ ((command : Command) × IsCommand words command
-      × ((plan : Plan) × OnTold told (λ files. HasPlan command (names_of guests) files plan))
-      × Then (ReadsChain command.chain.now) (λ rest. StopsAtCaptures command.captures.items told rest fault) deeds)
-
   -- behind the run, of which the headline holds. Without memory for its report nothing is said of it
   pub record IsStoppedLate (told told_now : Option Entries) (said : List ℕ) (deeds : List Deed) (fault : Fault) : Type 0 where
     pub command : Command
@@ -101,7 +101,7 @@ module _ {V : Type 0} {F : V → Type 0} (guest_acts : Guest V F → Acts) (gues
   -- of the report this was said
   abbrev pub IsStopped : (told told_now : Option Entries) → (said : List ℕ) → List Deed → Fault → Type 0
   IsStopped told told_now said deeds fault =
-      ((told_now ≡ told) × (said ≡ []) × IsStoppedEarly told deeds fault)
+      ((told_now ≡ told) × (said ≡ []) × IsStoppedEarly words (names_of guests) told deeds fault)
       ⊎ IsStoppedLate told told_now said deeds fault
 
   -- the calls of a run that was stopped, and what it said of its report before its line, which it said once

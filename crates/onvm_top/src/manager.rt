@@ -1,9 +1,12 @@
 //! A whole run.
-ghost use Rattle.std.specs.Prelude.{◌≡◌, ◌≢◌, ◌≤◌, ◌↔◌, ℕ, All, IfErr, IfOk, IfSome, IsSome, List, length, map, string_bytes};
+ghost use Rattle.std.specs.Prelude.{◌≡◌, ◌≢◌, ◌<◌, ◌≤◌, ◌↔◌, ℕ, All, IfErr, IfOk, IfSome, IsSome, List, length, map, string_bytes};
 ghost use Rattle.onvm_base.specs.declared.limits.TheConstants.{MAX_PORTS};
 ghost use Rattle.command_words.specs.Commands.{IsCapture, IsCommand};
 ghost use Rattle.std.specs.Io.KnownBytes.{Appends};
+ghost use Rattle.chain_file.specs.Guests.{names_of};
+ghost use Rattle.onvm_host.specs.Deeds.{faults_of};
 ghost use Rattle.onvm_top.specs.Accounts.{IsDone};
+ghost use Rattle.onvm_top.specs.Answers.{HasFault, IsTrueStatus};
 ghost use Rattle.onvm_top.specs.Calls.{Adds};
 ghost use Rattle.onvm_top.specs.Inputs.{MayOpen};
 ghost use Rattle.onvm_top.specs.Names.{MayReplay};
@@ -54,6 +57,13 @@ pub fn run<R: AllocGlobal + Wait, H: Host, C: Clock, G: Gate>(
         (λ guest. (NetFunction-box guest.function).state guest.function.value)
         (map string_bytes words.now) guests.items
         (H.files host.old) (H.files host.new) (H.said host.old) (H.said host.new) deeds run)) }
+
+    // What the status tells of the words and of the files.
+    ensures answer { IsTrueStatus (map string_bytes words.now) (names_of guests.items)
+        (H.files host.old) (H.files host.new) result.status }
+
+    // An input or the output is blamed only where one of these calls is a fault.
+    ensures faults { HasFault result.status → faults_of (H.deeds host.old) < faults_of (H.deeds host.new) }
 
     // What stopped any other run, after which calls, and that its line was said behind them.
     ensures stopped { result.status ≢ Status.Done
