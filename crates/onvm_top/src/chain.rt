@@ -65,12 +65,7 @@ pub(crate) fn read_plan<H: Host>(
 }
 
 // The plan of a text, which is a file's, or longer than a chain file may be and a file's begin.
-fn plan_of(
-    alloc: Global,
-    text: &[u8],
-    command: &Command,
-    guests: &[Guest],
-) -> Result<Plan, Fault>
+fn plan_of(alloc: Global, text: &[u8], command: &Command, guests: &[Guest]) -> Result<Plan, Fault>
     requires few { length command.now.captures.items ≤ MAX_PORTS }
     ensures plan { IfOk result (IsRead text.now (length command.now.captures.items) (names_of guests.now)) }
     ensures fault { IfErr result (IsRefusedFor text.now (length command.now.captures.items) (names_of guests.now)) }

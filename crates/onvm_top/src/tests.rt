@@ -15,7 +15,8 @@ const CAPTURE: [u8; 56] = [
     2, 0, 0, 0, 0, 1, 2, 0, 0, 0, 0, 2, 0x88, 0xb5, 1, 2,
 ];
 
-const REPORT: &str = "frames 1\nsent 1\nasked 0\nchain-end 0\nno-service 0\nno-port 0\nhops 0\nthrottled 0\nring-full 0\npool-empty 0\nposts 0\nticks 1\nlost 0\nyields 0\ntick 1 0\nshare f 1 100 1 100/100 1024\n";
+const REPORT: &str =
+    "frames 1\nsent 1\nasked 0\nchain-end 0\nno-service 0\nno-port 0\nhops 0\nthrottled 0\nring-full 0\npool-empty 0\nposts 0\nticks 1\nlost 0\nyields 0\ntick 1 0\nshare f 1 100 1 100/100 1024\n";
 
 fn file(alloc: Global, name: &str, bytes: &[u8]) -> Result<MemFile, Fail> {
     Ok(MemFile {
@@ -43,7 +44,14 @@ fn one_frame_is_sent_and_its_report_said(rt: HostRuntime) -> Result<(), Fail> {
         words.push(String::from_str(rt.alloc(), word)?)?;
     }
     let guests = Vec::new(rt.alloc());
-    let finish = run(&rt, &words, &mut host, &StepClock { at: 0 }, &OpenGate, guests);
+    let finish = run(
+        &rt,
+        &words,
+        &mut host,
+        &StepClock { at: 0 },
+        &OpenGate,
+        guests,
+    );
     assert_eq!(rt; finish.status, Status::Done);
     assert!(rt; finish.run.is_some());
     assert_eq!(rt; host.said(), REPORT.as_bytes());
