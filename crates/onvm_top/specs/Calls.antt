@@ -1,5 +1,6 @@
 -- Which calls a run makes of its host: of the chain file, of the captures, of the output.
-use Rattle.std.specs.Prelude.{◌≡◌, ◌⊎◌, ℕ, ◌+◌, ◌<◌, true, List, [], ◌∷◌, ◌++◌, Bor, length, map, Option, Some, None}
+use Rattle.std.specs.Borrow.{Bor}
+use Rattle.std.specs.Prelude.{◌≡◌, ◌⊎◌, ℕ, ◌+◌, ◌<◌, true, List, [], ◌∷◌, ◌++◌, length, map, Option, Some, None}
 use Rattle.onvm_base.specs.declared.limits.TheConstants.{MAX_CHAIN_FILE_BYTES}
 use Rattle.onvm_host.specs.Deeds.{Amounts, Deed, Opened, OpenFailed, Shut, Created, CreateFailed, Kept, KeepFailed, Said}
 use Rattle.onvm_host.specs.Files.{Entries, file_of}

@@ -1,5 +1,6 @@
 -- What the captures of a command hold: of a file what stands in it, of a generator the frames that it makes.
-use Rattle.std.specs.Prelude.{◌≡◌, ◌⊎◌, ◌<◌, ℕ, List, [], Bor, Option, Some, None, slice_get}
+use Rattle.std.specs.Borrow.{Bor}
+use Rattle.std.specs.Prelude.{◌≡◌, ◌⊎◌, ◌<◌, ℕ, List, [], Option, Some, None, slice_get}
 use Rattle.onvm_base.specs.declared.frame.Frame.{Frame}
 use Rattle.onvm_host.specs.Files.{Entries, file_of}
 use Rattle.pcap_in.specs.Classic.{IsCapture}

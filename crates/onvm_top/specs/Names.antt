@@ -1,5 +1,6 @@
 -- The names that a run of a command opens and creates.
-use Rattle.std.specs.Prelude.{◌≡◌, ℕ, List, Some, slice_get, Bor}
+use Rattle.std.specs.Borrow.{Bor}
+use Rattle.std.specs.Prelude.{◌≡◌, ℕ, List, Some, slice_get}
 use Rattle.command_words.specs.Commands.{IsCommand}
 use Rattle.command_words.specs.declared.capture.CaptureWord.TheVariants as word
 use Rattle.command_words.specs.declared.command.Command.{Command}

@@ -17,7 +17,7 @@ use crate::fault::Fault;
 use crate::output::{leave, say_all};
 use crate::replay::{replay_captures, report_of};
 use command_words::Command;
-use nf_api::Guest;
+use nf_api::{Guest, NetFunction};
 use nf_catalog::units;
 use onvm_base::Status;
 use onvm_host::{Clock, Gate, Host};
