@@ -53,8 +53,7 @@ pub fn run<R: AllocGlobal + Wait, H: Host, C: Clock, G: Gate>(
     // The headline, of the run that is handed back: after which calls of the host, of which frames,
     // and what it wrote and said.
     ensures done { IfSome result.run (λ run. Adds (H.deeds host.old) (H.deeds host.new)
-        (λ deeds. IsDone (λ guest. (NetFunction-box guest.function).acts guest.function.value)
-        (λ guest. (NetFunction-box guest.function).state guest.function.value)
+        (λ deeds. IsDone ⟦<Guest as NetFunction>⟧.acts ⟦<Guest as NetFunction>⟧.state
         (map string_bytes words.now) guests.items
         (H.files host.old) (H.files host.new) (H.said host.old) (H.said host.new) deeds run)) }
 
@@ -67,8 +66,7 @@ pub fn run<R: AllocGlobal + Wait, H: Host, C: Clock, G: Gate>(
 
     // What stopped any other run, after which calls, and that its line was said behind them.
     ensures stopped { result.status ≢ Status.Done
-        → IsStoppedRun (λ guest. (NetFunction-box guest.function).acts guest.function.value)
-        (λ guest. (NetFunction-box guest.function).state guest.function.value)
+        → IsStoppedRun ⟦<Guest as NetFunction>⟧.acts ⟦<Guest as NetFunction>⟧.state
         (map string_bytes words.now) guests.items
         (H.files host.old) (H.files host.new) (H.said host.old) (H.said host.new)
         (H.deeds host.old) (H.deeds host.new) result.status }
@@ -98,14 +96,12 @@ fn replay<R: AllocGlobal + Wait, H: Host>(
     requires names { MayReplay (H.may_open host.old) (H.may_create host.old)
         (map string_bytes words.now) }
     ensures done { IfOk result (λ run. Adds (H.deeds host.old) (H.deeds host.new)
-        (λ deeds. IsDone (λ guest. (NetFunction-box guest.function).acts guest.function.value)
-        (λ guest. (NetFunction-box guest.function).state guest.function.value)
+        (λ deeds. IsDone ⟦<Guest as NetFunction>⟧.acts ⟦<Guest as NetFunction>⟧.state
         (map string_bytes words.now) guests.items
         (H.files host.old) (H.files host.new) (H.said host.old) (H.said host.new) deeds run)) }
     ensures stopped { IfErr result (λ fault. Adds (H.deeds host.old) (H.deeds host.new)
         (λ deeds. (front : List ℕ) × Appends (H.said host.old) (H.said host.new) front
-        × IsStopped (λ guest. (NetFunction-box guest.function).acts guest.function.value)
-        (λ guest. (NetFunction-box guest.function).state guest.function.value)
+        × IsStopped ⟦<Guest as NetFunction>⟧.acts ⟦<Guest as NetFunction>⟧.state
         (map string_bytes words.now) guests.items
         (H.files host.old) (H.files host.new) front deeds fault)) }
 {
@@ -130,14 +126,12 @@ fn replay_command<R: AllocGlobal + Wait, H: Host>(
     requires few { length command.now.captures.items ≤ MAX_PORTS }
     ensures done { IfOk result (λ run. Adds (H.deeds host.old) (H.deeds host.new)
         (λ deeds. (texts : List (List ℕ)) → IsCommand texts command.now
-        → IsDone (λ guest. (NetFunction-box guest.function).acts guest.function.value)
-        (λ guest. (NetFunction-box guest.function).state guest.function.value) texts guests.items
+        → IsDone ⟦<Guest as NetFunction>⟧.acts ⟦<Guest as NetFunction>⟧.state texts guests.items
         (H.files host.old) (H.files host.new) (H.said host.old) (H.said host.new) deeds run)) }
     ensures stopped { IfErr result (λ fault. Adds (H.deeds host.old) (H.deeds host.new)
         (λ deeds. (front : List ℕ) × Appends (H.said host.old) (H.said host.new) front
         × ((texts : List (List ℕ)) → IsCommand texts command.now
-        → IsStopped (λ guest. (NetFunction-box guest.function).acts guest.function.value)
-        (λ guest. (NetFunction-box guest.function).state guest.function.value) texts guests.items
+        → IsStopped ⟦<Guest as NetFunction>⟧.acts ⟦<Guest as NetFunction>⟧.state texts guests.items
         (H.files host.old) (H.files host.new) front deeds fault))) }
 {
     let alloc = rt.alloc();
