@@ -1,8 +1,11 @@
+pub mod Accounts
 pub mod Answers
-pub mod Command
+pub mod Calls
+pub mod Captures
+pub mod Chains
 pub mod Fault
+pub mod Inputs
 pub mod Known
+pub mod Names
 pub mod Put
-pub mod Replay
 pub mod Stops
-pub mod Story

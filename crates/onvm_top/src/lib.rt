@@ -1,17 +1,18 @@
-//! A whole run of onvm: words in, a capture out.
+//! A whole run of onvm: words in, a capture and a report out.
 //!
-//! A *command* names a chain file, an output and a capture. A run *replays* the capture: it reads
-//! all frames and writes those that the chain sends, today each of them. What stops it is a
-//! *fault*, which has a status and a line.
+//! A *command* names a chain file, an output and the captures of ports. A run *replays* the captures
+//! through the functions of the chain file in a session, writes the frames that were sent and says a
+//! report. What stops it is a *fault*, which has a status and a line.
 #![tactic(auto)]
 
 mod chain;
-mod command;
 mod fault;
+mod inputs;
 pub mod laws;
 mod manager;
 mod output;
+mod replay;
 #[cfg(test)]
 mod tests;
 
-pub use manager::run;
+pub use manager::{Finish, run};

@@ -1,167 +1,149 @@
 //! A whole run.
-ghost use Rattle.std.specs.Prelude.{◌≡◌, ◌≢◌, ◌++◌, List, map, string_bytes, Some, OnOk, IfOk, IfErr};
-ghost use Rattle.onvm_base.specs.declared.frame.Frame.{Frame};
-ghost use Rattle.onvm_host.specs.Deeds.{Deed};
-ghost use Rattle.onvm_host.specs.Files.{Entries};
-ghost use Rattle.onvm_host.specs.Names.{SameNames};
-ghost use Rattle.pcap_in.specs.Emitted.{emit};
-ghost use Rattle.onvm_top.specs.Answers.{IsTrueStatus, IsChain, IsGoodCapture};
-ghost use Rattle.onvm_top.specs.Command.{MayReplay};
-ghost use Rattle.onvm_top.specs.Fault.{line_of, status_of};
-ghost use Rattle.onvm_top.specs.Known.{OnTold};
-ghost use Rattle.ingress.specs.Limits.{IsWithinLimits};
-ghost use Rattle.onvm_top.specs.Put.{SaysOnce};
-ghost use Rattle.onvm_top.specs.Replay.{IsDone, OnlyChanges};
-ghost use Rattle.onvm_top.specs.Stops.{IsStopped, StopsAtCapture, StopsAtChain, StopsAtOutput};
-ghost use Rattle.onvm_top.specs.Story.{Adds, IsStory, ReadsCapture, ReadsChain, WritesFrames};
+ghost use Rattle.std.specs.Prelude.{◌≡◌, ◌≢◌, ◌<◌, ◌≤◌, ◌↔◌, ℕ, All, IfErr, IfOk, IfSome, IsSome, List, length, map, string_bytes};
+ghost use Rattle.onvm_base.specs.declared.limits.TheConstants.{MAX_PORTS};
+ghost use Rattle.command_words.specs.Commands.{IsCapture, IsCommand};
+ghost use Rattle.std.specs.Io.KnownBytes.{Appends};
+ghost use Rattle.chain_file.specs.Guests.{names_of};
+ghost use Rattle.onvm_host.specs.Deeds.{faults_of};
+ghost use Rattle.onvm_top.specs.Accounts.{IsDone};
+ghost use Rattle.onvm_top.specs.Answers.{HasFault, IsTrueStatus};
+ghost use Rattle.onvm_top.specs.Calls.{Adds};
+ghost use Rattle.onvm_top.specs.Inputs.{MayOpen};
+ghost use Rattle.onvm_top.specs.Names.{MayReplay};
+ghost use Rattle.onvm_top.specs.Stops.{IsStopped, IsStoppedRun};
 
-use crate::chain::{FORWARDING_CHAIN, is_forwarding_chain};
-use crate::command::command_of;
+use crate::chain::read_plan;
 use crate::fault::Fault;
-use crate::output::{put_capture, say_all};
-use ingress::{CaptureFault, read_frames};
-use onvm_base::{Frames, PortId, Status};
+use crate::output::{leave, say_all};
+use crate::replay::{replay_captures, report_of};
+use command_words::Command;
+use nf_api::{Guest, NetFunction};
+use nf_catalog::units;
+use onvm_base::Status;
 use onvm_host::{Clock, Gate, Host};
-use std::alloc::Global;
+use onvm_session::Run;
+use std::sync::Wait;
 
-// The one port.
-const PORT: PortId = PortId(0);
+/// How a run ended, and what it left where it is done.
+#[derive(Drop)]
+pub struct Finish {
+    pub status: Status,
+    pub run: Option<Run>,
+}
 
-/// Replays a capture through a chain: `words` are the names of the chain file, of the output and
-/// of the capture. What stops it is said in one line. Neither clock nor gate is used yet.
-pub fn run<R: AllocGlobal, H: Host, C: Clock, G: Gate>(
+/// Replays captures through the functions of a chain file, as the words ask for. Guests are functions
+/// that a chain file may name. What was sent is written to the output, and then a report is said; what
+/// stops a run is said in one line.
+///
+/// The roles take turns, with `--serial` and without it. Neither clock nor gate is used yet.
+pub fn run<R: AllocGlobal + Wait, H: Host, C: Clock, G: Gate>(
     rt: &R,
     words: &[String],
     host: &mut H,
     _clock: &C,
     _gate: &G,
-) -> Status
+    guests: Vec<Guest>,
+) -> Finish
     requires names { MayReplay (H.may_open host.old) (H.may_create host.old)
         (map string_bytes words.now) }
 
-    // The calls of the host, in their order.
-    ensures story { Adds (H.deeds host.old) (H.deeds host.new)
-        (IsStory (map string_bytes words.now) result) }
+    // A run is handed back exactly where the status is Done.
+    ensures finished { result.status ≡ Status.Done ↔ IsSome result.run }
+
+    // The headline, of the run that is handed back: after which calls of the host, of which frames,
+    // and what it wrote and said.
+    ensures done { IfSome result.run (λ run. Adds (H.deeds host.old) (H.deeds host.new)
+        (λ deeds. IsDone ⟦<Guest as NetFunction>⟧.acts ⟦<Guest as NetFunction>⟧.state
+        (map string_bytes words.now) guests.items
+        (H.files host.old) (H.files host.new) (H.said host.old) (H.said host.new) deeds run)) }
 
     // What the status tells of the words and of the files.
-    ensures answer { IsTrueStatus (map string_bytes words.now)
-        (H.files host.old) (H.files host.new) result }
+    ensures answer { IsTrueStatus (map string_bytes words.now) (names_of guests.items)
+        (H.files host.old) (H.files host.new) result.status }
 
-    // A run that is done says nothing. Of every other, what stopped it is said behind all its calls.
-    ensures quiet { result ≡ Status.Done → H.said host.new ≡ H.said host.old }
-    ensures line { result ≢ Status.Done
-        → (fault : Fault) × (deeds : List Deed) × (status_of fault ≡ result)
-        × IsStopped (map string_bytes words.now) (H.files host.old) (H.files host.new) deeds fault
-        × SaysOnce (H.said host.old) (H.said host.new)
-        (H.deeds host.old ++ deeds) (H.deeds host.new) (line_of fault) }
+    // An input or the output is blamed only where one of these calls is a fault.
+    ensures faults { HasFault result.status → faults_of (H.deeds host.old) < faults_of (H.deeds host.new) }
+
+    // What stopped any other run, after which calls, and that its line was said behind them.
+    ensures stopped { result.status ≢ Status.Done
+        → IsStoppedRun ⟦<Guest as NetFunction>⟧.acts ⟦<Guest as NetFunction>⟧.state
+        (map string_bytes words.now) guests.items
+        (H.files host.old) (H.files host.new) (H.said host.old) (H.said host.new)
+        (H.deeds host.old) (H.deeds host.new) result.status }
 {
-    match replay(rt.alloc(), words, host) {
-        Ok(()) => Status::Done,
+    match replay(rt, words, host, guests) {
+        Ok(run) => Finish {
+            status: Status::Done,
+            run: Some(run),
+        },
         Err(fault) => {
             let _ = say_all(host, fault.line().as_bytes());
-            fault.status()
+            Finish {
+                status: fault.status(),
+                run: None,
+            }
         }
     }
 }
 
 // The run without its fault line.
-fn replay<H: Host>(alloc: Global, words: &[String], host: &mut H) -> Result<(), Fault>
+fn replay<R: AllocGlobal + Wait, H: Host>(
+    rt: &R,
+    words: &[String],
+    host: &mut H,
+    guests: Vec<Guest>,
+) -> Result<Run, Fault>
     requires names { MayReplay (H.may_open host.old) (H.may_create host.old)
         (map string_bytes words.now) }
-    ensures done { OnOk result
-        (IsDone (map string_bytes words.now) (H.files host.old) (H.files host.new)) }
-    ensures story { OnOk result (Adds (H.deeds host.old) (H.deeds host.new)
-        (IsStory (map string_bytes words.now) Status.Done)) }
+    ensures done { IfOk result (λ run. Adds (H.deeds host.old) (H.deeds host.new)
+        (λ deeds. IsDone ⟦<Guest as NetFunction>⟧.acts ⟦<Guest as NetFunction>⟧.state
+        (map string_bytes words.now) guests.items
+        (H.files host.old) (H.files host.new) (H.said host.old) (H.said host.new) deeds run)) }
     ensures stopped { IfErr result (λ fault. Adds (H.deeds host.old) (H.deeds host.new)
-        (λ deeds. IsStopped (map string_bytes words.now)
-        (H.files host.old) (H.files host.new) deeds fault)) }
-    ensures said { H.said host.new ≡ H.said host.old }
+        (λ deeds. (front : List ℕ) × Appends (H.said host.old) (H.said host.new) front
+        × IsStopped ⟦<Guest as NetFunction>⟧.acts ⟦<Guest as NetFunction>⟧.state
+        (map string_bytes words.now) guests.items
+        (H.files host.old) (H.files host.new) front deeds fault)) }
 {
-    let Some(command) = command_of(words) else {
-        return Err(Fault::Words);
-    };
-    read_chain(host, command.chain)?;
-    let frames = read_capture(alloc, host, command.capture)?;
-    write_output(host, command.out, &frames)?;
-    Ok(())
-}
-
-// Reads the chain file, and refuses another than the one that forwards.
-fn read_chain<H: Host>(host: &mut H, name: &str) -> Result<(), Fault>
-    requires { H.may_open host.old name.now }
-    ensures ok { OnOk result (OnTold (H.files host.old) (IsChain name.now)) }
-    ensures read { OnOk result (Adds (H.deeds host.old) (H.deeds host.new) (ReadsChain name.now)) }
-    ensures err { IfErr result (λ fault. Adds (H.deeds host.old) (H.deeds host.new)
-        (λ deeds. StopsAtChain name.now (H.files host.old) deeds fault)) }
-    ensures files { H.files host.new ≡ H.files host.old }
-    ensures said { H.said host.new ≡ H.said host.old }
-    ensures names { SameNames (H.may_open host.old) (H.may_create host.old)
-        (H.may_open host.new) (H.may_create host.new) }
-{
-    let mut input = match host.open_input(name) {
-        Ok(input) => input,
-        Err(why) => return Err(Fault::ReadChain.unless_memory(why)),
-    };
-    let same = is_forwarding_chain(&mut input);
-    host.shut(input);
-    match same {
-        Ok(true) => Ok(()),
-        Ok(false) => Err(Fault::Plan),
-        Err(_) => Err(Fault::ReadChain),
+    match command_words::read(rt.alloc(), words) {
+        Ok(Some(command)) => replay_command(rt, host, &command, guests),
+        Ok(None) => Err(Fault::Words),
+        Err(_) => Err(Fault::Memory),
     }
 }
 
-// Reads the capture to its end.
-fn read_capture<H: Host>(alloc: Global, host: &mut H, name: &str) -> Result<Frames, Fault>
-    requires { H.may_open host.old name.now }
-    ensures ok { IfOk result (λ frames.
-        OnTold (H.files host.old) (λ files. IsGoodCapture name.now files frames)) }
-    ensures within { IfOk result (λ frames. IsWithinLimits frames) }
-    ensures read { OnOk result
-        (Adds (H.deeds host.old) (H.deeds host.new) (ReadsCapture name.now)) }
-    ensures err { IfErr result (λ fault. Adds (H.deeds host.old) (H.deeds host.new)
-        (λ deeds. StopsAtCapture name.now (H.files host.old) deeds fault)) }
-    ensures files { H.files host.new ≡ H.files host.old }
-    ensures said { H.said host.new ≡ H.said host.old }
-    ensures names { SameNames (H.may_open host.old) (H.may_create host.old)
-        (H.may_open host.new) (H.may_create host.new) }
+// The run of a command.
+fn replay_command<R: AllocGlobal + Wait, H: Host>(
+    rt: &R,
+    host: &mut H,
+    command: &Command,
+    guests: Vec<Guest>,
+) -> Result<Run, Fault>
+    requires chain { H.may_open host.old command.now.chain.now }
+    requires output { H.may_create host.old command.now.output.now }
+    requires opens { MayOpen (H.may_open host.old) command.now.captures.items }
+    requires captures { All IsCapture command.now.captures.items }
+    requires few { length command.now.captures.items ≤ MAX_PORTS }
+    ensures done { IfOk result (λ run. Adds (H.deeds host.old) (H.deeds host.new)
+        (λ deeds. (texts : List (List ℕ)) → IsCommand texts command.now
+        → IsDone ⟦<Guest as NetFunction>⟧.acts ⟦<Guest as NetFunction>⟧.state texts guests.items
+        (H.files host.old) (H.files host.new) (H.said host.old) (H.said host.new) deeds run)) }
+    ensures stopped { IfErr result (λ fault. Adds (H.deeds host.old) (H.deeds host.new)
+        (λ deeds. (front : List ℕ) × Appends (H.said host.old) (H.said host.new) front
+        × ((texts : List (List ℕ)) → IsCommand texts command.now
+        → IsStopped ⟦<Guest as NetFunction>⟧.acts ⟦<Guest as NetFunction>⟧.state texts guests.items
+        (H.files host.old) (H.files host.new) front deeds fault))) }
 {
-    let mut capture = match host.open_input(name) {
-        Ok(capture) => capture,
-        Err(why) => return Err(Fault::ReadCapture(PORT).unless_memory(why)),
+    let alloc = rt.alloc();
+    let plan = read_plan(alloc, host, command, guests.as_slice())?;
+    let Ok(units) = units(alloc, &plan, guests) else {
+        return Err(Fault::Memory);
     };
-    let frames = read_frames(alloc, &mut capture);
-    host.shut(capture);
-    match frames {
-        Ok(frames) => Ok(frames),
-        Err(CaptureFault::Read) => Err(Fault::ReadCapture(PORT)),
-        Err(CaptureFault::Broken(fault)) => Err(Fault::Broken(PORT, fault)),
-        Err(CaptureFault::TooMany) => Err(Fault::TooMany(PORT)),
-        Err(CaptureFault::Memory) => Err(Fault::Memory),
-    }
-}
-
-// Creates the output, puts the capture text of the frames, and keeps it.
-fn write_output<H: Host>(host: &mut H, name: &str, frames: &Frames) -> Result<(), Fault>
-    requires { H.may_create host.old name.now }
-    ensures ok { OnOk result ((files : Entries) → H.files host.old ≡ Some files
-        → (now : Entries) × (H.files host.new ≡ Some now)
-        × OnlyChanges name.now (emit frames.now) files now) }
-    ensures written { OnOk result
-        (Adds (H.deeds host.old) (H.deeds host.new) (WritesFrames frames.now name.now)) }
-    ensures err { IfErr result (λ fault. Adds (H.deeds host.old) (H.deeds host.new)
-        (λ deeds. StopsAtOutput name.now frames.now
-        (H.files host.old) (H.files host.new) deeds fault)) }
-    ensures said { H.said host.new ≡ H.said host.old }
-{
-    let mut output = match host.create_output(name) {
-        Ok(output) => output,
-        Err(why) => return Err(Fault::Write.unless_memory(why)),
+    let captures = command.captures.as_slice();
+    let run = replay_captures(rt, alloc, host, captures, &plan, units)?;
+    let Ok(report) = report_of(alloc, &plan, &run, &command.options) else {
+        return Err(Fault::Memory);
     };
-    let put = put_capture(&mut output, frames);
-    let kept = host.keep(output);
-    match (put, kept) {
-        (Ok(()), Ok(())) => Ok(()),
-        _ => Err(Fault::Write),
-    }
+    leave(host, command.output, &run.sent, report.as_slice())?;
+    Ok(run)
 }
