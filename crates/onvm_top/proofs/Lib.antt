@@ -1,2 +1,4 @@
 pub mod Emitting
+pub mod Kept
+pub mod Leaving
 pub mod Put
