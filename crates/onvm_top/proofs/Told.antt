@@ -24,7 +24,7 @@ use Rattle.onvm_top.specs.Chains.{HasFaultyPlan, HasPlan}
 use Rattle.onvm_top.specs.Fault.{fault_of_feed}
 use Rattle.onvm_top.specs.Stops.{IsFaultOfPort, StopsAtCaptures}
 use Rattle.onvm_top.specs.declared.fault.Fault.{Fault}
-use Rattle.onvm_top.specs.declared.fault.Fault.TheVariants.{ReadCapture, Memory}
+use Rattle.onvm_top.specs.declared.fault.Fault.TheVariants.{ReadCapture}
 use Rattle.onvm_top.proofs.Causes.{good_or_lowest, plan_or_fault}
 use Rattle.onvm_top.proofs.OneCommand.{AreGood-same, HasFaultyPlan-same, same_command}
 
