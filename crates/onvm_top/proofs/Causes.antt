@@ -11,10 +11,10 @@ use Rattle.pcap_in.proofs.Faults.{capture_first, fault_once, no_fault, up_to_fir
 use Rattle.pcap_in.proofs.Grammar.{capture_once}
 use Rattle.ingress.specs.Limits.{PassesLimit}
 use Rattle.ingress.proofs.Captured.{within_first}
-use Rattle.chain_file.specs.File.{IsFaultOf, IsRefused, by_memory, by_size, by_text, by_tree}
+use Rattle.chain_file.specs.File.{IsFaultOf, IsRead, IsRefused, IsSamePlan, by_memory, by_size, by_text, by_tree}
 use Rattle.chain_file.specs.declared.fault.FileFault.{FileFault}
 use Rattle.chain_file.specs.declared.fault.FileFault.TheVariants as file
-use Rattle.chain_file.proofs.Reading.{not_refused}
+use Rattle.chain_file.proofs.Reading.{not_refused, same_plan}
 use Rattle.chain_file.proofs.Told.{same_fault}
 use Rattle.command_words.specs.declared.capture.CaptureWord.{CaptureWord}
 use Rattle.command_words.specs.declared.capture.CaptureWord.TheVariants.{File, Generated}
@@ -68,6 +68,15 @@ plan_or_fault name captures guests files plan cause here there =
     let same : there.bytes ≡ here.bytes = cc in
     there.known (not_refused here.bytes captures guests plan cause here.read
     (subst (λ b. IsRefused b captures guests cause) same there.refused))
+
+-- and it is one plan
+pub one_plan : (name : List ℕ) (captures : ℕ) (guests : List (List ℕ)) (files : Entries) (plan other : Plan)
+    → IsPlanFile name captures guests files plan → IsPlanFile name captures guests files other → IsSamePlan plan other
+one_plan name captures guests files plan other here there =
+    let found : Some here.bytes ≡ Some there.bytes = sym here.file_is ∙ there.file_is in
+    let same : there.bytes ≡ here.bytes = cc in
+    same_plan here.bytes captures guests plan other here.read
+    (subst (λ b. IsRead b captures guests other) same there.read)
 
 -- The captures
 
