@@ -9,8 +9,8 @@ use Rattle.pcap_in.specs.Faulty.{IsCaptureUpTo}
 use Rattle.pcap_in.specs.declared.pull.PcapFault.{PcapFault}
 use Rattle.pcap_in.proofs.Faults.{capture_first, fault_once, no_fault, up_to_first}
 use Rattle.pcap_in.proofs.Grammar.{capture_once}
-use Rattle.ingress.specs.Limits.{PassesLimit}
-use Rattle.ingress.proofs.Captured.{within_first}
+use Rattle.rx_feed.specs.Limits.{PassesLimit}
+use Rattle.rx_feed.proofs.Captured.{within_first}
 use Rattle.chain_file.specs.File.{IsFaultOf, IsRead, IsRefused, IsSamePlan, by_memory, by_size, by_text, by_tree}
 use Rattle.chain_file.specs.declared.fault.FileFault.{FileFault}
 use Rattle.chain_file.specs.declared.fault.FileFault.TheVariants as file

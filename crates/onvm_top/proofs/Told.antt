@@ -8,7 +8,7 @@ use Rattle.onvm_base.specs.declared.status.Status.{Status}
 use Rattle.onvm_base.specs.declared.status.Status.TheVariants as status
 use Rattle.onvm_host.specs.Deeds.{Amounts, Deed}
 use Rattle.onvm_host.specs.Files.{Entries, file_of}
-use Rattle.ingress.specs.Limits.{IsSoundSoFar}
+use Rattle.rx_feed.specs.Limits.{IsSoundSoFar}
 use Rattle.chain_file.specs.declared.fault.FileFault.{FileFault}
 use Rattle.rx_feed.specs.Standing.{Standing}
 use Rattle.rx_feed.specs.declared.fault.FeedFault.{FeedFault}
