@@ -1,6 +1,12 @@
 pub mod Answered
+pub mod Causes
+pub mod Emitting
 pub mod Faults
 pub mod HandedIn
+pub mod Kept
+pub mod Leaving
+pub mod OneCommand
 pub mod Put
 pub mod Running
 pub mod Shutting
+pub mod Told

@@ -5,6 +5,7 @@ ghost use Rattle.onvm_base.specs.declared.ids.PortId.{PortId};
 ghost use Rattle.onvm_base.specs.declared.plan.Plan.{Plan};
 ghost use Rattle.onvm_base.specs.declared.status.Status.{Status};
 ghost use Rattle.onvm_base.specs.declared.status.Status.TheVariants as status;
+ghost use Rattle.chain_file.specs.File.{IsSamePlan};
 ghost use Rattle.chain_file.specs.declared.fault.FileFault.{FileFault};
 ghost use Rattle.command_words.specs.declared.capture.CaptureWord.{CaptureWord};
 ghost use Rattle.command_words.specs.declared.command.Command.{Command};
@@ -40,6 +41,8 @@ pub fn one_input()
         → (port : ℕ) → frames port ≡ others port }
     ensures plan { (command : Command) (guests : List (List ℕ)) (files : Entries) (plan : Plan) (cause : FileFault)
         → HasPlan command guests files plan → ¬ (HasFaultyPlan command guests files cause) }
+    ensures same { (command : Command) (guests : List (List ℕ)) (files : Entries) (plan other : Plan)
+        → HasPlan command guests files plan → HasPlan command guests files other → IsSamePlan plan other }
     ensures captures { (files : Entries) (captures : List CaptureWord) (frames : ℕ → List Frame) (port : ℕ)
         → AreGood (Some files) captures frames → ¬ (IsLowestBad files captures port) }
 {}
