@@ -1,1 +1,2 @@
+pub mod ChainTexts
 pub mod Put
