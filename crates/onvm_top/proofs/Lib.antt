@@ -1,5 +1,6 @@
 pub mod Answered
 pub mod Causes
+pub mod ChainTexts
 pub mod Emitting
 pub mod Faults
 pub mod HandedIn
