@@ -1,2 +1,4 @@
 pub mod Opening
 pub mod Put
+pub mod Replayed
+pub mod Replaying
