@@ -7,7 +7,10 @@ pub mod HandedIn
 pub mod Kept
 pub mod Leaving
 pub mod OneCommand
+pub mod Opening
 pub mod Put
+pub mod Replayed
+pub mod Replaying
 pub mod Running
 pub mod Shutting
 pub mod Told
