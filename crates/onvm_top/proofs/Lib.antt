@@ -1,7 +1,16 @@
+pub mod Answered
 pub mod Causes
+pub mod ChainTexts
 pub mod Emitting
+pub mod Faults
+pub mod HandedIn
 pub mod Kept
 pub mod Leaving
 pub mod OneCommand
+pub mod Opening
 pub mod Put
+pub mod Replayed
+pub mod Replaying
+pub mod Running
+pub mod Shutting
 pub mod Told

@@ -1,7 +1,9 @@
 //! The captures of a command: opened as feeds, and shut again.
-ghost use Rattle.std.specs.Prelude.{◌≡◌, ◌≤◌, ◌++◌, ◌∷◌, [], All, IfErr, IfOk, OnOk, length};
+ghost use Rattle.std.specs.Borrow.{Bor};
+ghost use Rattle.std.specs.Prelude.{◌≡◌, ◌≤◌, ◌++◌, ◌∷◌, [], ℕ, List, All, IfErr, IfOk, OnOk, length};
 ghost use Rattle.onvm_base.specs.declared.limits.TheConstants.{MAX_PORTS};
 ghost use Rattle.command_words.specs.Commands.{IsCapture};
+ghost use Rattle.command_words.specs.declared.capture.CaptureWord.TheVariants.{File};
 ghost use Rattle.onvm_host.specs.Names.{SameNames};
 ghost use Rattle.onvm_top.specs.Calls.{Adds, Opens};
 ghost use Rattle.onvm_top.specs.Inputs.{AreFeedsOf, IsFeedOf, MayOpen, StopsAtOpens, opens_of, shuts_of};
@@ -55,6 +57,7 @@ fn open_feed<H: Host>(host: &mut H, capture: &CaptureWord) -> Result<Feed<H::Inp
     ensures feed { IfOk result (λ feed.
         IsFeedOf H.Input.name H.Input.left H.Input.takes (H.files host.old) capture.now feed) }
     ensures told { H.deeds host.new ≡ H.deeds host.old ++ opens_of capture.now result }
+    ensures file { IfErr result (λ _. (name : Bor (List ℕ)) × (capture.now ≡ File name)) }
     ensures files { H.files host.new ≡ H.files host.old }
     ensures said { H.said host.new ≡ H.said host.old }
     ensures names { SameNames (H.may_open host.old) (H.may_create host.old)

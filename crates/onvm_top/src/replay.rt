@@ -16,7 +16,7 @@ use nf_api::NetFunction;
 use onvm_base::{ListOf, NoMemory, Plan, Text};
 use onvm_host::Host;
 use onvm_report::{Options, Printed, report};
-use onvm_session::{Run, session};
+use onvm_session::{Ended, Run, session};
 use std::alloc::Global;
 use std::sync::Wait;
 
@@ -45,9 +45,9 @@ pub(crate) fn replay_captures<R: Wait, H: Host, N: NetFunction>(
         (H.may_open host.new) (H.may_create host.new) }
 {
     let feeds = open_feeds(alloc, host, captures)?;
-    let ended = session(rt, alloc, plan, units, feeds);
-    shut_feeds(host, ended.feeds);
-    match ended.outcome {
+    let Ended { outcome, feeds } = session(rt, alloc, plan, units, feeds);
+    shut_feeds(host, feeds);
+    match outcome {
         Ok(run) => Ok(run),
         Err(stop) => Err(Fault::of_stop(stop)),
     }
