@@ -6,7 +6,7 @@ use Rattle.onvm_base.specs.declared.status.Status.TheVariants as status
 use Rattle.onvm_host.specs.Deeds.{Amounts, Deed}
 use Rattle.onvm_host.specs.Files.{Entries}
 use Rattle.pcap_in.specs.declared.pull.PcapFault.{PcapFault}
-use Rattle.ingress.specs.Limits.{PassesLimit}
+use Rattle.rx_feed.specs.Limits.{PassesLimit}
 use Rattle.rx_feed.specs.Standing.{Standing}
 use Rattle.rx_feed.specs.declared.fault.FeedFault.{FeedFault}
 use Rattle.rx_feed.specs.declared.fault.FeedFault.TheVariants as feed
