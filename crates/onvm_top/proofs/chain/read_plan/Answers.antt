@@ -2,7 +2,8 @@ use Rattle.std.proofs.Common.{◌∙◌, subst, length}
 use Rattle.std.proofs.lemmas.Result.{IfErr-weaker, IfOk-weaker}
 use Rattle.chain_file.specs.Guests.{names_of}
 use Rattle.onvm_top.specs.Chains.{IsRefusedFor}
-use Rattle.onvm_top.proofs.ChainTexts.{captures_have_ports, guests_are_handed_in, reads_chain, stops_at_chain}
+use Rattle.chain_file.proofs.HandedIn.{captures_have_ports, guests_are_handed_in}
+use Rattle.onvm_top.proofs.ChainTexts.{reads_chain, stops_at_chain}
 use Rattle.onvm_top.proofs.chain.read_plan.Goals as goal
 
 pub returns-in-Ok-text-clause-guests : goal.returns-in-Ok-text-clause-guests
