@@ -1,6 +1,6 @@
 -- A run put together from its parts: up to where it was done, and up to where it was stopped.
-use Rattle.std.proofs.Common.{◌≡◌, ◌≤◌, ◌∙◌, sym, ap, subst, refl, inl, inr, ◌⊎◌, ℕ, List, [], ◌++◌, length, Option, Result, Ok, Err, append_assoc}
-use Rattle.std.specs.Prelude.{OnErr, OnOk}
+use Rattle.std.proofs.Common.{◌≡◌, ◌≤◌, ◌∙◌, sym, ap, subst, refl, inl, inr, ℕ, List, [], ◌++◌, length, Option, None, Result, Ok, Err, append_assoc}
+use Rattle.std.specs.Prelude.{IfNone, OnErr, OnOk}
 use Rattle.std.specs.Io.KnownBytes.{Appends}
 use Rattle.std.proofs.lemmas.List.{append-nil}
 use Rattle.onvm_base.specs.declared.plan.Plan.{Plan}
@@ -55,6 +55,12 @@ pub says_once : {A E : Type 0} (result : Result A E) (old new : Option (List ℕ
     → SaysOnce old new before now line
 says_once (Ok done) old new before now line all part = inl all
 says_once (Err fault) old new before now line all part = inr part
+
+-- what holds where there is none holds where an option is None
+pub IfNone-is : {A : Type 0} (option : Option A) (P : Type 0) → option ≡ None → IfNone option P → P
+IfNone-is {A} option P is holds =
+    let Q : Option A → Type 0 = λ o. IfNone o P in
+    subst Q is holds
 
 module _ {V : Type 0} {F : V → Type 0} (guest_acts : Guest V F → Acts) (guest_state : Guest V F → Tree)
     (guests : List (Guest V F)) where
