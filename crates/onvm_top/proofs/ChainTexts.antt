@@ -51,7 +51,8 @@ not_within : (bytes : List ℕ) → MAX_CHAIN_FILE_BYTES < length bytes → is_w
 not_within bytes long =
     ap (λ short. short && nat_le (openings bytes) MAX_CHAIN_FILE_BRACKETS) (past (length bytes) MAX_CHAIN_FILE_BYTES long)
 
-module _ (bytes : List ℕ) (captures : ℕ) (guests : List (List ℕ)) (fault : FileFault) (long : MAX_CHAIN_FILE_BYTES < length bytes) where
+module _ (bytes : List ℕ) (captures : ℕ) (guests : List (List ℕ)) (fault : FileFault)
+    (long : MAX_CHAIN_FILE_BYTES < length bytes) where
   off : is_within bytes ≡ true → ⊥
   off within = true≢false (sym within ∙ not_within bytes long)
 
@@ -65,16 +66,16 @@ longer : (bytes more : List ℕ) → MAX_CHAIN_FILE_BYTES < length bytes → MAX
 longer bytes more long = omega (arith, long, length-append bytes more)
 
 -- a longer text is refused as its front is, where that is too long already
-refused_longer : (bytes more : List ℕ) (captures : ℕ) (guests : List (List ℕ)) (fault : FileFault) → MAX_CHAIN_FILE_BYTES < length bytes
-    → IsRefused bytes captures guests fault → IsRefused (bytes ++ more) captures guests fault
+refused_longer : (bytes more : List ℕ) (captures : ℕ) (guests : List (List ℕ)) (fault : FileFault)
+    → MAX_CHAIN_FILE_BYTES < length bytes → IsRefused bytes captures guests fault → IsRefused (bytes ++ more) captures guests fault
 refused_longer bytes more captures guests fault long refused = elim (refused_for_size bytes captures guests fault long refused) [
   | inl is ↦ by_memory is
   | inr is ↦ by_size is (not_within (bytes ++ more) (longer bytes more long))
 ]
 
 -- of a file that was opened this text was taken, and if it is short, all of it
-module _ (told : Option Entries) (name : List ℕ) (left left' : Option (List ℕ)) (text : List ℕ) (captures : ℕ) (guests : List (List ℕ))
-    (opens : Opens told name left) (taken : Consumes left left' text)
+module _ (told : Option Entries) (name : List ℕ) (left left' : Option (List ℕ)) (text : List ℕ)
+    (captures : ℕ) (guests : List (List ℕ)) (opens : Opens told name left) (taken : Consumes left left' text)
     (whole : length text ≤ MAX_CHAIN_FILE_BYTES → IsAtEnd left') where
   -- so a plan of the text is the file's
   pub plan_of_file : (plan : Plan) → IsRead text captures guests plan
@@ -137,7 +138,8 @@ stops_at_chain command guests told left left' text deeds fault opens taken whole
       cause,
       is,
       reads,
-      faulty_file told command.chain.now left left' text (length command.captures.items) guests opens taken whole cause known refused,
+      faulty_file told command.chain.now left left' text (length command.captures.items) guests opens taken whole cause
+          known refused,
     )
 
 -- ---- the calls of its reading
@@ -164,7 +166,7 @@ reads_chain before made now name same fresh all none reads opens shuts named =
       (all, reads.0, refl, subst (IsReading chain_limit (Some reads.0)) (sym is) reads.1.2),
     )
 
--- ---- a plan's guests and ports
+-- ---- a plan's guests and ports, and above `refused_longer`: to be replaced by chain_file's HandedIn and Longer
 
 -- what `HasGuest` asks, kind by kind
 abbrev Known : (guests : List (List ℕ)) → Kind → Type 0

@@ -1,7 +1,7 @@
 -- Captures and their feeds, side by side: how they are opened and shut.
-use Rattle.std.proofs.Common.{◌≡◌, ℕ, zero, suc, ◌<◌, arith, take, drop, slice_index_or, List, [], ◌∷◌, ◌++◌, length, map, refl, sym, ◌∙◌, ap, subst, Some, Option, Result, Ok, Err, Bor, inl, inr}
+use Rattle.std.proofs.Common.{◌≡◌, ℕ, zero, suc, ◌<◌, arith, take, drop, slice_index_or, List, [], ◌∷◌, ◌++◌, length, map, refl, sym, ◌∙◌, ap, subst, Some, Option, Ok, Err, Bor, inl, inr}
 use Rattle.std.specs.Prelude.{slice_get}
-use Rattle.std.proofs.lemmas.List.{append_assoc, map-append}
+use Rattle.std.proofs.lemmas.List.{append-nil, append_assoc, map-append}
 use Rattle.onvm_base.specs.declared.ids.PortId.{PortId}
 use Rattle.onvm_host.specs.Deeds.{Amounts, Deed, Opened, OpenFailed, Shut}
 use Rattle.onvm_host.specs.Files.{Entries}
@@ -9,11 +9,12 @@ use Rattle.onvm_host.specs.Names.{SameNames}
 use Rattle.onvm_host.specs.declared.fault.HostFault.{HostFault}
 use Rattle.onvm_host.specs.declared.fault.HostFault.TheVariants.{Failed, Memory}
 use Rattle.onvm_session.proofs.Growing.{some_inj}
+use Rattle.rx_feed.specs.Made.{Making}
 use Rattle.rx_feed.specs.declared.feed.Feed.{Feed}
 use Rattle.rx_feed.specs.declared.feed.Feed.TheVariants.{Live, Made}
 use Rattle.command_words.specs.declared.capture.CaptureWord.{CaptureWord}
 use Rattle.command_words.specs.declared.capture.CaptureWord.TheVariants.{File, Generated}
-use Rattle.onvm_top.specs.Calls.{Adds, Opens, names_in}
+use Rattle.onvm_top.specs.Calls.{Adds, names_in}
 use Rattle.onvm_top.specs.Fault.{unless_memory}
 use Rattle.onvm_top.specs.Inputs.{AreFeedsOf, IsFeedOf, StopsAtOpens, opens_of, shuts_of}
 use Rattle.onvm_top.specs.declared.fault.Fault.TheVariants.{ReadCapture}
@@ -75,8 +76,7 @@ module _ {I : Type 0} (name_of : I → List ℕ) (left_of : I → Option (List �
       ap (λ ds. Shut (name_of input) (takes_of input) ∷ ds) (shuts_append feeds more)
   shuts_append (Made generator ∷ feeds) more = shuts_append feeds more
 
-  -- one feed more was shut
-  pub shut_more : (start now next : List Deed) (feeds : List (Feed I)) (feed : Feed I)
+  shut_more : (start now next : List Deed) (feeds : List (Feed I)) (feed : Feed I)
       → now ≡ start ++ shuts_of name_of left_of takes_of feeds
       → next ≡ now ++ shuts_of name_of left_of takes_of (feed ∷ [])
       → next ≡ start ++ shuts_of name_of left_of takes_of (feeds ++ feed ∷ [])
@@ -84,6 +84,23 @@ module _ {I : Type 0} (name_of : I → List ℕ) (left_of : I → Option (List �
       more ∙ ap (λ ds. ds ++ shuts_of name_of left_of takes_of (feed ∷ [])) is
       ∙ append_assoc start (shuts_of name_of left_of takes_of feeds) (shuts_of name_of left_of takes_of (feed ∷ []))
       ∙ ap (λ ds. start ++ ds) (sym (shuts_append feeds (feed ∷ [])))
+
+  -- one input more was shut
+  pub shut_live : (start now next : List Deed) (feeds : List (Feed I)) (feed : Feed I) (input : I)
+      → feed ≡ Live input → now ≡ start ++ shuts_of name_of left_of takes_of feeds
+      → next ≡ now ++ Shut (name_of input) (takes_of input) ∷ []
+      → next ≡ start ++ shuts_of name_of left_of takes_of (feeds ++ feed ∷ [])
+  shut_live start now next feeds feed input live is told =
+      shut_more start now next feeds feed is
+      (told ∙ ap (λ (f : Feed I). now ++ shuts_of name_of left_of takes_of (f ∷ [])) (sym live))
+
+  -- of a generator nothing is shut
+  pub shut_made : (start now : List Deed) (feeds : List (Feed I)) (feed : Feed I) (generator : Making)
+      → feed ≡ Made generator → now ≡ start ++ shuts_of name_of left_of takes_of feeds
+      → now ≡ start ++ shuts_of name_of left_of takes_of (feeds ++ feed ∷ [])
+  shut_made start now feeds feed generator made is =
+      shut_more start now now feeds feed is
+      (sym (append-nil now) ∙ ap (λ (f : Feed I). now ++ shuts_of name_of left_of takes_of (f ∷ [])) (sym made))
 
   module _ (told : Option Entries) where
     -- each feed is that of the capture in its place, and nothing was taken of it

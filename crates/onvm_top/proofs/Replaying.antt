@@ -1,6 +1,6 @@
 -- Captures that were replayed: what their ports stand for, and how their inputs were shut.
-use Rattle.std.proofs.Common.{◌≡◌, ℕ, zero, suc, ◌+◌, ◌<◌, ◌≤◌, arith, Bool, true, false, List, [], ◌∷◌, ◌++◌, length, map, refl, sym, ◌∙◌, ap, subst, Some, None, Option, Bor, inl, inr, All, slice_index_or}
-use Rattle.std.specs.Prelude.{◌⊎◌, if◌then◌else◌, slice_get}
+use Rattle.std.proofs.Common.{◌≡◌, ℕ, suc, ◌+◌, ◌<◌, ◌≤◌, arith, Bool, true, List, [], ◌∷◌, ◌++◌, length, refl, sym, ◌∙◌, ap, subst, Some, None, Option, Bor, inl, inr, All}
+use Rattle.std.specs.Prelude.{if◌then◌else◌, slice_get}
 use Rattle.std.specs.Io.KnownBytes.{Consumes, IsAtEnd}
 use Rattle.std.proofs.lemmas.Bool.{cases_lt, ne_eqb}
 use Rattle.std.proofs.lemmas.List.{append_assoc}
@@ -11,12 +11,12 @@ use Rattle.onvm_base.specs.declared.limits.TheConstants.{MAX_PORT_FRAMES}
 use Rattle.onvm_base.specs.declared.plan.Plan.{Plan}
 use Rattle.onvm_core.specs.declared.entry.Entry.{Entry}
 use Rattle.onvm_core.specs.Logs.{Setting, entries_of_port}
-use Rattle.onvm_host.specs.Deeds.{Amounts, Deed, Opened, Shut}
+use Rattle.onvm_host.specs.Deeds.{Amounts, Deed, Shut}
 use Rattle.onvm_host.specs.Files.{Entries}
 use Rattle.onvm_promises.specs.Entries.{IsRunOf, entries_from}
-use Rattle.rx_feed.specs.Feeds.{IsFreshFeed, made_standing, no_standing}
+use Rattle.rx_feed.specs.Feeds.{IsFreshFeed, no_standing}
 use Rattle.rx_feed.specs.Made.{Making, made_frames}
-use Rattle.rx_feed.specs.Standing.{IsStanding, IsTakenSince, Standing}
+use Rattle.rx_feed.specs.Standing.{Standing}
 use Rattle.rx_feed.specs.declared.fault.FeedFault.{FeedFault}
 use Rattle.rx_feed.specs.declared.feed.Feed.{Feed}
 use Rattle.rx_feed.specs.declared.feed.Feed.TheVariants.{Live, Made}
@@ -24,11 +24,11 @@ use Rattle.rx_feed.proofs.Stopping.{whole_capture}
 use Rattle.onvm_session.specs.RoleStates.{IsFedBy}
 use Rattle.onvm_session.specs.Rooms.{AreFresh}
 use Rattle.onvm_session.specs.Runs.{AreHandedBack}
-use Rattle.onvm_session.proofs.Growing.{got_below, got_none, got_some, some_inj}
+use Rattle.onvm_session.proofs.Growing.{got_below, got_none, got_some}
 use Rattle.command_words.specs.Commands.{IsCapture}
 use Rattle.command_words.specs.declared.capture.CaptureWord.{CaptureWord}
 use Rattle.command_words.specs.declared.capture.CaptureWord.TheVariants.{File, Generated}
-use Rattle.onvm_top.specs.Calls.{Adds, BringsTo, Opens, ReadsTo, Shuts, names_in}
+use Rattle.onvm_top.specs.Calls.{Adds, BringsTo, Opens, ReadsTo, Shuts}
 use Rattle.onvm_top.specs.Captures.{AreFramesOf}
 use Rattle.onvm_top.specs.Inputs.{AreFeedsOf, IsFeedOf, shuts_of}
 

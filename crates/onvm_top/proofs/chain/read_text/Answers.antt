@@ -109,6 +109,9 @@ loop-source-preserved g c =
 pub returns-clause-taken : goal.returns-clause-taken
 returns-clause-taken g c = c.loop-source.invariant.taken
 
+pub returns-clause-whole : goal.returns-clause-whole
+returns-clause-whole g c = λ short. absurd (omega (arith, short, c.loop-source-test.false, c.len.ensures))
+
 pub returns-clause-ok : goal.returns-clause-ok
 returns-clause-ok g c = c.loop-source.invariant.ends (search rules)
 

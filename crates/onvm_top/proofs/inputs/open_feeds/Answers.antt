@@ -1,4 +1,4 @@
-use Rattle.std.proofs.Common.{◌≡◌, ◌∙◌, ◌+◌, sym, ap, subst, arith, List, [], ◌++◌, ◌∷◌, slice_index_or, take, drop, suc, Some}
+use Rattle.std.proofs.Common.{◌∙◌, ◌+◌, sym, ap, subst, arith, List, [], ◌++◌, ◌∷◌, slice_index_or, take, drop, suc, Some}
 use Rattle.std.proofs.lemmas.List.{length-take-le, take_all, take_more}
 use Rattle.std.proofs.lemmas.Option.{slice_get-get_or}
 use Rattle.rx_feed.specs.declared.feed.Feed.{Feed}

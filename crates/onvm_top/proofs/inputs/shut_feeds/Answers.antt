@@ -1,9 +1,8 @@
-use Rattle.std.proofs.Common.{◌∙◌, sym, ap, List, [], ◌∷◌, ◌++◌}
-use Rattle.std.proofs.lemmas.List.{append-nil}
+use Rattle.std.proofs.Common.{◌∙◌, ap, List, ◌++◌}
 use Rattle.std.specs.Vec.Iter.{into_iter_items, into_iter_len}
 use Rattle.rx_feed.specs.declared.feed.Feed.{Feed}
 use Rattle.onvm_session.proofs.Draining.{takes_all, takes_more}
-use Rattle.onvm_top.proofs.Opening.{names_later, shut_more}
+use Rattle.onvm_top.proofs.Opening.{names_later, shut_live, shut_made}
 use Rattle.onvm_top.specs.Inputs.{shuts_of}
 use Rattle.onvm_top.proofs.inputs.shut_feeds.Goals as goal
 
@@ -13,17 +12,13 @@ loop-feed-preserved g c =
     let was = at.invariant in
     let step = c.in-Some.ensures.steps in
     let source = g.H.Input.Source in
-    let now = g.H.Host.deeds at.host in
     record {
       can_next = tt;
       is_finite = tt;
       taking = takes_more c.args.feeds at.yielded (into_iter_items at.feed-iterator) (into_iter_items c.next.new.self)
           (into_iter_len at.feed-iterator) (into_iter_len c.next.new.self) c.in-Some.feed was.taking step.0 step.1;
-      shut = shut_more source.name source.left source.takes (g.H.Host.deeds c.args.host.now) now now at.yielded
-          c.in-Some.feed was.shut
-          (sym (append-nil now)
-          ∙ ap (λ (feed : Feed g.row.H-Input.Denot). now ++ shuts_of source.name source.left source.takes (feed ∷ []))
-          (sym c.in-Made.is));
+      shut = shut_made source.name source.left source.takes (g.H.Host.deeds c.args.host.now) (g.H.Host.deeds at.host)
+          at.yielded c.in-Some.feed c.in-Made._generator c.in-Made.is was.shut;
       files = was.files;
       said = was.said;
       names = was.names;
@@ -35,18 +30,14 @@ loop-feed-preserved-in-Live g c =
     let was = at.invariant in
     let step = c.in-Some.ensures.steps in
     let source = g.H.Input.Source in
-    let now = g.H.Host.deeds at.host in
     let call = c.shut.ensures in
     record {
       can_next = tt;
       is_finite = tt;
       taking = takes_more c.args.feeds at.yielded (into_iter_items at.feed-iterator) (into_iter_items c.next.new.self)
           (into_iter_len at.feed-iterator) (into_iter_len c.next.new.self) c.in-Some.feed was.taking step.0 step.1;
-      shut = shut_more source.name source.left source.takes (g.H.Host.deeds c.args.host.now) now
-          (g.H.Host.deeds c.shut.new.self) at.yielded c.in-Some.feed was.shut
-          (call.told
-          ∙ ap (λ (feed : Feed g.row.H-Input.Denot). now ++ shuts_of source.name source.left source.takes (feed ∷ []))
-          (sym c.in-Live.is));
+      shut = shut_live source.name source.left source.takes (g.H.Host.deeds c.args.host.now) (g.H.Host.deeds at.host)
+          (g.H.Host.deeds c.shut.new.self) at.yielded c.in-Some.feed c.in-Live.input c.in-Live.is was.shut call.told;
       files = call.files ∙ was.files;
       said = call.said ∙ was.said;
       names = names_later _ _ _ _ _ _ was.names call.names;
