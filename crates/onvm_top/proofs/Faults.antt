@@ -1,6 +1,5 @@
 -- The faults among the calls of a run that was stopped.
-use Rattle.std.proofs.Common.{◌≡◌, ◌≢◌, ◌∙◌, sym, ap, subst, refl, inl, inr, ℕ, ◌<◌, Bool, true, false, List, [], ◌∷◌, ◌++◌, map, Option, Some, None, is_none, ◌||◌, arith}
-use Rattle.std.proofs.lemmas.List.{map-append}
+use Rattle.std.proofs.Common.{◌≡◌, ◌∙◌, sym, ap, subst, refl, inl, inr, ℕ, ◌<◌, Bool, true, false, List, [], ◌∷◌, ◌++◌, map, Option, Some, None, is_none, ◌||◌, arith}
 use Rattle.onvm_base.specs.declared.status.Status.{Status}
 use Rattle.onvm_base.specs.declared.status.Status.TheVariants as status
 use Rattle.onvm_host.specs.Deeds.{Amounts, Deed, Said, faults_of, has_failed}

@@ -1,6 +1,6 @@
 -- A run put together from its parts: up to where it was done, and up to where it was stopped.
-use Rattle.std.proofs.Common.{◌≡◌, ◌≤◌, ◌∙◌, sym, ap, subst, refl, inl, inr, ◌⊎◌, ℕ, List, [], ◌++◌, length, Option, Result, Ok, Err, append_assoc}
-use Rattle.std.specs.Prelude.{OnErr, OnOk}
+use Rattle.std.proofs.Common.{◌≡◌, ◌≤◌, ◌∙◌, sym, ap, subst, refl, inl, inr, ℕ, List, [], ◌++◌, length, Option, None, Result, Ok, Err, append_assoc}
+use Rattle.std.specs.Prelude.{IfNone, OnErr, OnOk}
 use Rattle.std.specs.Io.KnownBytes.{Appends}
 use Rattle.std.proofs.lemmas.List.{append-nil}
 use Rattle.onvm_base.specs.declared.plan.Plan.{Plan}
@@ -17,6 +17,7 @@ use Rattle.nf_catalog.specs.declared.unit.UnitOf.{UnitOf}
 use Rattle.onvm_session.specs.RoleStates.{acts_by, start_by}
 use Rattle.onvm_session.specs.declared.run.Run.{Run}
 use Rattle.command_words.specs.Commands.{IsCommand}
+use Rattle.command_words.specs.declared.capture.CaptureWord.{CaptureWord}
 use Rattle.command_words.specs.declared.command.Command.{Command}
 use Rattle.onvm_top.specs.Accounts.{IsDone, IsLeft, IsReplayed, IsReplayOf, IsReportOf, capture_text}
 use Rattle.onvm_top.specs.Calls.{Adds, ReadsChain, Then}
@@ -55,13 +56,19 @@ pub says_once : {A E : Type 0} (result : Result A E) (old new : Option (List ℕ
 says_once (Ok done) old new before now line all part = inl all
 says_once (Err fault) old new before now line all part = inr part
 
+-- what holds where there is none holds where an option is None
+pub IfNone-is : {A : Type 0} (option : Option A) (P : Type 0) → option ≡ None → IfNone option P → P
+IfNone-is {A} option P is holds =
+    let Q : Option A → Type 0 = λ o. IfNone o P in
+    subst Q is holds
+
 module _ {V : Type 0} {F : V → Type 0} (guest_acts : Guest V F → Acts) (guest_state : Guest V F → Tree)
     (guests : List (Guest V F)) where
   -- the replay of captures by these units
-  abbrev pub Replays : (told : Option Entries) → Command → Plan → List (UnitOf (Guest V F)) → Run → List Deed → Type 0
-  Replays told command plan units run deeds =
+  abbrev pub Replays : (told : Option Entries) → Plan → List CaptureWord → List (UnitOf (Guest V F)) → Run → List Deed → Type 0
+  Replays told plan captures units run deeds =
       IsReplayOf (acts_by (acts_of guest_acts) (state_of guest_state) units)
-      (start_by (acts_of guest_acts) (state_of guest_state) units) told plan command.captures.items deeds run
+      (start_by (acts_of guest_acts) (state_of guest_state) units) told plan captures deeds run
 
   -- what holds of whichever words are the command
   abbrev pub Replayed : (told : Option Entries) → Command → Plan → Run → List Deed → Type 0
@@ -79,22 +86,27 @@ module _ {V : Type 0} {F : V → Type 0} (guest_acts : Guest V F → Acts) (gues
 
   -- the chain file was read, and then the captures were replayed
   pub Adds-Replayed : (told read : Option Entries) (before between now : List Deed) (command : Command) (plan : Plan)
-      (units : List (UnitOf (Guest V F))) (run : Run) → read ≡ told
-      → OnTold told (λ files. HasPlan command (names_of guests) files plan)
+      (units : List (UnitOf (Guest V F))) (run : Run) (names : List (List ℕ)) (captures : List CaptureWord)
+      → read ≡ told → names ≡ names_of guests → captures ≡ command.captures.items
+      → OnTold told (λ files. HasPlan command names files plan)
       → length command.captures.items ≤ plan.ports → AreUnits plan.functions guests units
       → Adds before between (ReadsChain command.chain.now)
-      → Adds between now (Replays read command plan units run)
+      → Adds between now (Replays read plan captures units run)
       → Adds before now (Replayed told command plan run)
-  Adds-Replayed told read before between now command plan units run same has ports are chain replays =
-      let Of : Option Entries → Type 0 = λ files. Replays files command plan units run replays.0 in
-      let calls = Adds-Then before between now (ReadsChain command.chain.now) (Replays told command plan units run) chain
-      (replays.0, replays.1, subst Of same replays.2) in (
+  Adds-Replayed told read before between now command plan units run names captures same named those has ports are chain
+      replays =
+      let Has : List (List ℕ) → Type 0 = λ ns. OnTold told (λ files. HasPlan command ns files plan) in
+      let Of : Option Entries → Type 0 = λ files. Replays files plan captures units run replays.0 in
+      let From : List CaptureWord → Type 0 = λ cs. Replays told plan cs units run replays.0 in
+      let calls = Adds-Then before between now (ReadsChain command.chain.now)
+      (Replays told plan command.captures.items units run) chain
+      (replays.0, replays.1, subst From those (subst Of same replays.2)) in (
         calls.0,
         calls.1,
         λ words is.
             record {
               is_command = is;
-              plan_is = has;
+              plan_is = subst Has named has;
               ports = ports;
               units = units;
               units_are = are;
@@ -104,14 +116,15 @@ module _ {V : Type 0} {F : V → Type 0} (guest_acts : Guest V F → Acts) (gues
 
   -- and then the output was written and the report said
   pub Adds-Done : (told read told_now : Option Entries) (said before_said said_now : Option (List ℕ))
-      (before between now : List Deed) (command : Command) (plan : Plan) (run : Run) (report : List ℕ)
-      → read ≡ told → before_said ≡ said
+      (before between now : List Deed) (command : Command) (plan : Plan) (run : Run) (text report : List ℕ)
+      → read ≡ told → before_said ≡ said → report ≡ text
       → Adds before between (Replayed told command plan run)
-      → IsReportOf plan run command.options report
+      → IsReportOf plan run command.options text
       → Adds between now (IsLeft command.output.now (capture_text run.sent) report read told_now before_said said_now)
       → Adds before now (Done told told_now said said_now command run)
-  Adds-Done told read told_now said before_said said_now before between now command plan run report same unsaid replayed
-      reported left =
+  Adds-Done told read told_now said before_said said_now before between now command plan run text report same
+      unsaid is_text replayed reported left =
+      let Reports : List ℕ → Type 0 = IsReportOf plan run command.options in
       let Of : Option Entries → Type 0 = λ files.
       IsLeft command.output.now (capture_text run.sent) report files told_now before_said said_now left.0 in
       let Says : Option (List ℕ) → Type 0 = λ old.
@@ -127,7 +140,7 @@ module _ {V : Type 0} {F : V → Type 0} (guest_acts : Guest V F → Acts) (gues
               in_order = refl;
               replayed = replayed.2 words is;
               report = report;
-              report_is = reported;
+              report_is = subst Reports (sym is_text) reported;
               left = subst Says unsaid (subst Of same left.2);
             },
       )
@@ -136,14 +149,20 @@ module _ {V : Type 0} {F : V → Type 0} (guest_acts : Guest V F → Acts) (gues
 
   -- at the chain file
   pub Adds-chain : (told told_now : Option Entries) (said said_now : Option (List ℕ)) (before now : List Deed)
-      (command : Command) (fault : Fault) → told_now ≡ told → said_now ≡ said
-      → Adds before now (λ deeds. StopsAtChain command (names_of guests) told deeds fault)
+      (command : Command) (fault : Fault) (names : List (List ℕ))
+      → told_now ≡ told → said_now ≡ said → names ≡ names_of guests
+      → Adds before now (λ deeds. StopsAtChain command names told deeds fault)
       → Adds before now (Stopped told told_now said said_now command fault)
-  Adds-chain told told_now said said_now before now command fault same unsaid stops = (
-    stops.0,
-    stops.1,
-    ([], says_nothing said said_now unsaid, λ words is. inl (same, refl, inr (inr (inl (command, is, stops.2))))),
-  )
+  Adds-chain told told_now said said_now before now command fault names same unsaid named stops =
+      let Stops : List (List ℕ) → Type 0 = λ ns. StopsAtChain command ns told stops.0 fault in (
+        stops.0,
+        stops.1,
+        (
+          [],
+          says_nothing said said_now unsaid,
+          λ words is. inl (same, refl, inr (inr (inl (command, is, subst Stops named stops.2)))),
+        ),
+      )
 
   -- behind it, for want of memory
   pub Adds-memory : (told told_now : Option Entries) (said said_now : Option (List ℕ)) (before now : List Deed)
@@ -151,29 +170,33 @@ module _ {V : Type 0} {F : V → Type 0} (guest_acts : Guest V F → Acts) (gues
       → Adds before now (ReadsChain command.chain.now)
       → Adds before now (Stopped told told_now said said_now command Memory)
   Adds-memory told told_now said said_now before now command same unsaid reads =
-      Adds-chain told told_now said said_now before now command Memory same unsaid
+      Adds-chain told told_now said said_now before now command Memory (names_of guests) same unsaid refl
       (reads.0, reads.1, inr (inr (refl, inr reads.2)))
 
   -- at the captures
   pub Adds-captures : (told read told_now : Option Entries) (said read_said said_now : Option (List ℕ))
       (before between now : List Deed) (command : Command) (plan : Plan) (fault : Fault)
+      (names : List (List ℕ)) (captures : List CaptureWord)
       → read ≡ told → told_now ≡ read → read_said ≡ said → said_now ≡ read_said
-      → OnTold told (λ files. HasPlan command (names_of guests) files plan)
+      → names ≡ names_of guests → captures ≡ command.captures.items
+      → OnTold told (λ files. HasPlan command names files plan)
       → Adds before between (ReadsChain command.chain.now)
-      → Adds between now (λ deeds. StopsAtCaptures command.captures.items read deeds fault)
+      → Adds between now (λ deeds. StopsAtCaptures captures read deeds fault)
       → Adds before now (Stopped told told_now said said_now command fault)
-  Adds-captures told read told_now said read_said said_now before between now command plan fault same later unsaid silent
-      has chain stops =
-      let Of : Option Entries → Type 0 = λ files. StopsAtCaptures command.captures.items files stops.0 fault in
+  Adds-captures told read told_now said read_said said_now before between now command plan fault names captures
+      same later unsaid silent named those has chain stops =
+      let Has : List (List ℕ) → Type 0 = λ ns. OnTold told (λ files. HasPlan command ns files plan) in
+      let Of : Option Entries → Type 0 = λ files. StopsAtCaptures captures files stops.0 fault in
+      let From : List CaptureWord → Type 0 = λ cs. StopsAtCaptures cs told stops.0 fault in
       let calls = Adds-Then before between now (ReadsChain command.chain.now)
       (λ deeds. StopsAtCaptures command.captures.items told deeds fault) chain
-      (stops.0, stops.1, subst Of same stops.2) in (
+      (stops.0, stops.1, subst From those (subst Of same stops.2)) in (
         calls.0,
         calls.1,
         (
           [],
           says_nothing said said_now (silent ∙ unsaid),
-          λ words is. inl (later ∙ same, refl, inr (inr (inr (command, is, (plan, has), calls.2)))),
+          λ words is. inl (later ∙ same, refl, inr (inr (inr (command, is, (plan, subst Has named has), calls.2)))),
         ),
       )
 
@@ -204,15 +227,16 @@ module _ {V : Type 0} {F : V → Type 0} (guest_acts : Guest V F → Acts) (gues
 
   -- at the output, or at the report behind it
   pub Adds-output : (told read told_now : Option Entries) (said read_said said_now : Option (List ℕ))
-      (before between now : List Deed) (command : Command) (plan : Plan) (run : Run) (report : List ℕ) (fault : Fault)
-      → read ≡ told → read_said ≡ said
+      (before between now : List Deed) (command : Command) (plan : Plan) (run : Run) (text report : List ℕ) (fault : Fault)
+      → read ≡ told → read_said ≡ said → report ≡ text
       → Adds before between (Replayed told command plan run)
-      → IsReportOf plan run command.options report
+      → IsReportOf plan run command.options text
       → Adds between now (λ deeds. (front : List ℕ) × Appends read_said said_now front
       × StopsAtOutput command.output.now (capture_text run.sent) report read told_now front deeds fault)
       → Adds before now (Stopped told told_now said said_now command fault)
-  Adds-output told read told_now said read_said said_now before between now command plan run report fault same unsaid
-      replayed reported stops =
+  Adds-output told read told_now said read_said said_now before between now command plan run text report fault
+      same unsaid is_text replayed reported stops =
+      let Reports : List ℕ → Type 0 = IsReportOf plan run command.options in
       let front = stops.2.0 in
       let Of : Option Entries → Type 0 = λ files.
       StopsAtOutput command.output.now (capture_text run.sent) report files told_now front stops.0 fault in
@@ -231,7 +255,7 @@ module _ {V : Type 0} {F : V → Type 0} (guest_acts : Guest V F → Acts) (gues
                 writes = stops.0;
                 in_order = refl;
                 replayed = replayed.2 words is;
-                stops = inr (report, reported, subst Of same stops.2.2);
+                stops = inr (report, subst Reports (sym is_text) reported, subst Of same stops.2.2);
               },
         ),
       )

@@ -2,7 +2,7 @@
 use Rattle.std.specs.Borrow.{Bor}
 use Rattle.std.specs.Prelude.{◌≡◌, ◌⊎◌, ℕ, ◌+◌, ◌<◌, true, List, [], ◌∷◌, ◌++◌, length, map, Option, Some, None}
 use Rattle.onvm_base.specs.declared.limits.TheConstants.{MAX_CHAIN_FILE_BYTES}
-use Rattle.onvm_host.specs.Deeds.{Amounts, Deed, Opened, OpenFailed, Shut, Created, CreateFailed, Kept, KeepFailed, Said}
+use Rattle.onvm_host.specs.Deeds.{Amounts, Deed, Opened, OpenFailed, Shut, Created, Kept, KeepFailed, Said}
 use Rattle.onvm_host.specs.Files.{Entries, file_of}
 use Rattle.onvm_host.specs.Moved.{IsReading, Moved}
 use Rattle.rx_feed.specs.Standing.{IsStanding, Standing, last_takes}
