@@ -61,6 +61,7 @@ module _ {I : Type 0} (name_of : I → List ℕ) (left_of : I → Option (List �
           counted = done.counted;
           standings = done.standings;
           ended = λ port below. done.ended port (omega (arith, below, few));
+          pulled = λ port below. refl;
           calls = reads.2;
         },
       )

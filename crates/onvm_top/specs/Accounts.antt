@@ -88,6 +88,8 @@ pub record IsReplayOf {S : Type 0} (acts : ℕ → S → Handling → S → Type
   pub counted : (setting : Setting) → IsRunOf plan frames setting → length run.records ≡ length setting.entries
   pub standings : ℕ → Standing
   pub ended : (port : ℕ) → port < length captures → (standings port).ended ≡ true
+  -- the frames are those that were pulled of the bytes taken
+  pub pulled : (port : ℕ) → port < length captures → frames port ≡ (standings port).pulled
   pub calls : ReadsTo told standings captures deeds
 
 -- A guest does this, and has this state
