@@ -115,8 +115,7 @@ pub reads_chain : (before made now : List Deed) (name same : List ℕ) (fresh al
     → Adds before now (ReadsChain name)
 reads_chain before made now name same fresh all none reads opens shuts named =
     let takes = reads.1.0 in
-    let is : all ≡ takes = reads.1.1 ∙ ap (λ t. t ++ takes) none in
-    (
+    let is : all ≡ takes = reads.1.1 ∙ ap (λ t. t ++ takes) none in (
       Opened name ∷ Shut name all ∷ [],
       opened_and_shut before made now name same all opens shuts named,
       (all, reads.0, refl, subst (IsReading chain_limit (Some reads.0)) (sym is) reads.1.2),
