@@ -15,6 +15,7 @@ mod kinds;
 mod large;
 mod marks;
 mod refused;
+mod scarce;
 mod several;
 mod spellings;
 mod texts;

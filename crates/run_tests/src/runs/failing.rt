@@ -31,33 +31,50 @@ fn a_file_that_is_not_there_is_told(rt: HostRuntime) -> Result<(), Fail> {
     Ok(())
 }
 
-// The numbers of the failing takes of a chain file, and two captures with those of theirs.
+// A capture: its bytes, or all but the last, and the number of its take that fails, 0 for none.
 #[derive(Clone, Copy)]
-struct Takes<'a> {
-    chain: &'a [u64],
-    first: (&'a [u8], &'a [u64]),
-    second: (&'a [u8], &'a [u64]),
+struct Capture {
+    bytes: [u8; 56],
+    torn: bool,
+    failing: u64,
 }
 
-const SOUND: Takes<'static> = Takes {
-    chain: &[],
-    first: (&CAPTURE, &[]),
-    second: (&CAPTURE, &[]),
+impl Capture {
+    fn text(&self) -> &[u8] {
+        if self.torn {
+            &self.bytes[..55]
+        } else {
+            self.bytes.as_slice()
+        }
+    }
+}
+
+const SOUND: Capture = Capture {
+    bytes: CAPTURE,
+    torn: false,
+    failing: 0,
 };
 
-// A run over these files, which makes no output.
+const TORN: Capture = Capture {
+    bytes: CAPTURE,
+    torn: true,
+    failing: 0,
+};
+
+// A run over a chain file whose take of this number fails, and two captures. It makes no output.
 fn refuse<R: AllocGlobal + Wait + Abort>(
     rt: &R,
-    takes: Takes<'_>,
+    chain: u64,
+    captures: [Capture; 2],
     status: Status,
     line: &str,
 ) -> Result<(), Fail> {
-    let (first, first_fail) = takes.first;
-    let (second, second_fail) = takes.second;
+    let [first, second] = captures;
+    let (chain_fail, first_fail, second_fail) = ([chain], [first.failing], [second.failing]);
     let files = [
-        given("c", TWO_PORTS.as_bytes(), takes.chain),
-        given("k", first, first_fail),
-        given("l", second, second_fail),
+        given("c", TWO_PORTS.as_bytes(), &chain_fail),
+        given("k", first.text(), &first_fail),
+        given("l", second.text(), &second_fail),
     ];
     let words = ["--serial", "c", "o", "k", "l"];
     expect(rt, &files, &words, refused(status, line), line)
@@ -67,25 +84,18 @@ fn refuse<R: AllocGlobal + Wait + Abort>(
 // no torn end is told.
 #[test]
 fn a_failed_take_is_told(rt: HostRuntime) -> Result<(), Fail> {
-    let torn = &CAPTURE[..55];
-    for number in [1, 2] {
-        let fail = [number];
-        let chain = Takes {
-            chain: &fail,
-            ..SOUND
-        };
-        refuse(&rt, chain, Status::Read, "fault read chain\n")?;
-        for capture in [CAPTURE.as_slice(), torn] {
-            let first = Takes {
-                first: (capture, &fail),
-                ..SOUND
-            };
-            refuse(&rt, first, Status::Read, "fault read 0\n")?;
-            let second = Takes {
-                second: (capture, &fail),
-                ..SOUND
-            };
-            refuse(&rt, second, Status::Read, "fault read 1\n")?;
+    for failing in [1, 2] {
+        refuse(
+            &rt,
+            failing,
+            [SOUND, SOUND],
+            Status::Read,
+            "fault read chain\n",
+        )?;
+        for capture in [SOUND, TORN] {
+            let failed = Capture { failing, ..capture };
+            refuse(&rt, 0, [failed, SOUND], Status::Read, "fault read 0\n")?;
+            refuse(&rt, 0, [SOUND, failed], Status::Read, "fault read 1\n")?;
         }
     }
     Ok(())
@@ -94,31 +104,21 @@ fn a_failed_take_is_told(rt: HostRuntime) -> Result<(), Fail> {
 // A fault in the bytes that were taken is told before the take behind them fails.
 #[test]
 fn the_first_fault_of_the_lowest_port_is_told(rt: HostRuntime) -> Result<(), Fail> {
-    let long = altered(CAPTURE, 32, [1, 0, 4, 0]);
-    let torn = &CAPTURE[..55];
-    let (never, first, second) = ([0; 0], [1], [2]);
-    let late = Takes {
-        first: (&long, &second),
+    let long = Capture {
+        bytes: altered(CAPTURE, 32, [1, 0, 4, 0]),
         ..SOUND
     };
-    refuse(
-        &rt,
-        late,
-        Status::Capture,
-        "fault capture 0 too-long 24 262145\n",
-    )?;
-    let above = Takes {
-        first: (torn, &never),
-        second: (&CAPTURE, &first),
+    let line = "fault capture 0 too-long 24 262145\n";
+    let late = Capture { failing: 2, ..long };
+    refuse(&rt, 0, [late, SOUND], Status::Capture, line)?;
+    let line = "fault capture 0 torn 24\n";
+    let unread = Capture {
+        failing: 1,
         ..SOUND
     };
-    refuse(&rt, above, Status::Capture, "fault capture 0 torn 24\n")?;
-    let below = Takes {
-        first: (torn, &second),
-        second: (&long, &never),
-        ..SOUND
-    };
-    refuse(&rt, below, Status::Read, "fault read 0\n")
+    refuse(&rt, 0, [TORN, unread], Status::Capture, line)?;
+    let cut = Capture { failing: 2, ..TORN };
+    refuse(&rt, 0, [cut, long], Status::Read, "fault read 0\n")
 }
 
 fn given<'a>(name: &'a str, bytes: &'a [u8], fail: &'a [u64]) -> Given<'a> {

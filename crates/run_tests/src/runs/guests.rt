@@ -78,22 +78,28 @@ fn a_guest_is_called_for_each_frame_and_dropped(rt: HostRuntime) -> Result<(), F
     Ok(())
 }
 
+fn guest_with(alloc: Global, name: &str, function: Box<dyn NetFunction + Send>) -> Result<Guest, Fail> {
+    Ok(Guest {
+        name: Name::from_slice(alloc, name.as_bytes())?,
+        function,
+    })
+}
+
+fn flip_and_mirror(alloc: Global) -> Result<Vec<Guest>, Fail> {
+    let flip: Box<dyn NetFunction + Send> = Box::new(alloc, Flip { handled: 0 })?;
+    let mirror: Box<dyn NetFunction + Send> = Box::new(alloc, Mirror)?;
+    let mut guests = Vec::new(alloc);
+    guests.push(guest_with(alloc, "flip", flip)?)?;
+    guests.push(guest_with(alloc, "mirror", mirror)?)?;
+    Ok(guests)
+}
+
 // The chain goes through both, and a third function hands the frame on.
 #[test]
 fn two_guests_of_a_chain_each_do_their_part(rt: HostRuntime) -> Result<(), Fail> {
     let file =
         r#"{"version":1,"ports":1,"cores":2,"functions":[{"name":"f","service":1,"core":0,"kind":"guest","guest":"mirror"},{"name":"g","service":2,"core":1,"kind":"guest","guest":"flip"}],"chains":[{"name":"a","steps":[{"to":2},{"to":1},{"out":0}]}],"default":"a"}"#;
-    let mut guests = Vec::new(rt.alloc());
-    let flip: Box<dyn NetFunction + Send> = Box::new(rt.alloc(), Flip { handled: 0 })?;
-    let mirror: Box<dyn NetFunction + Send> = Box::new(rt.alloc(), Mirror)?;
-    guests.push(Guest {
-        name: Name::from_slice(rt.alloc(), b"flip")?,
-        function: flip,
-    })?;
-    guests.push(Guest {
-        name: Name::from_slice(rt.alloc(), b"mirror")?,
-        function: mirror,
-    })?;
+    let guests = flip_and_mirror(rt.alloc())?;
     let capture = captured(rt.alloc(), &[&FRAME, &FLIPPED])?;
     let given = [sound("c", file.as_bytes()), sound("k", &capture)];
     let mut host = host_of(rt.alloc(), &given, &[], SPACE)?;

@@ -3,7 +3,7 @@
 use nf_api::Guest;
 use onvm_base::{ListOf, Status, Text};
 use onvm_host::{MemFile, MemFiles, MemHost, OpenGate, StepClock, have_distinct_names};
-use onvm_top::run;
+use onvm_top::{Finish, run};
 use std::alloc::Global;
 use std::process::Abort;
 use std::str;
@@ -78,22 +78,33 @@ pub fn host_of(
     Ok(MemHost::make(alloc, files, fail, space)?)
 }
 
-/// The status of a run by these words. The run is handed back exactly where it is done.
+/// The words of a command.
+pub fn words_of(alloc: Global, words: &[&str]) -> Result<Vec<String>, Fail> {
+    let mut command = Vec::new(alloc);
+    for word in words {
+        command.push(String::from_str(alloc, *word)?)?;
+    }
+    Ok(command)
+}
+
+/// The status of a run, which is handed back exactly where it is done.
+pub fn status_of(finish: &Finish) -> Result<Status, Fail> {
+    if finish.run.is_some() != (finish.status == Status::Done) {
+        return Err(Fail::from("a run is handed back exactly where it is done"));
+    }
+    Ok(finish.status)
+}
+
+/// The status of a run by these words.
 pub fn play<R: AllocGlobal + Wait>(
     rt: &R,
     host: &mut MemHost,
     words: &[&str],
     guests: Vec<Guest>,
 ) -> Result<Status, Fail> {
-    let mut command = Vec::new(rt.alloc());
-    for word in words {
-        command.push(String::from_str(rt.alloc(), *word)?)?;
-    }
-    let finish = run(rt, &command, host, &StepClock { at: 0 }, &OpenGate, guests);
-    if finish.run.is_some() != (finish.status == Status::Done) {
-        return Err(Fail::from("a run is handed back exactly where it is done"));
-    }
-    Ok(finish.status)
+    let words = words_of(rt.alloc(), words)?;
+    let finish = run(rt, &words, host, &StepClock { at: 0 }, &OpenGate, guests);
+    status_of(&finish)
 }
 
 /// Compares what a run left with what was expected.
