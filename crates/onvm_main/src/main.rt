@@ -7,11 +7,10 @@ use onvm_base::{Name, NoMemory, Status};
 use onvm_host::{FileHost, OpenGate, SysClock};
 use onvm_top::run;
 use std::alloc::Global;
-use std::env;
 use std::io::{self, ErrorKind};
-use std::mem;
 use std::process::ExitCode;
 use std::sync::Wait;
+use std::{env, mem};
 
 fn main(rt: HostRuntime) -> ExitCode {
     let answer = match words(&rt) {
