@@ -14,7 +14,7 @@ sources := crates.txt $(shell find crates -name out -prune -o -type f '(' -name 
 
 help:
 	@echo 'make build   proves and builds the program, where a source is newer than it'
-	@echo 'make run     replays the first example, and prints what was emitted'
+	@echo 'make run     replays the first example, and prints the report and what was emitted'
 	@echo "make test    the merge gate: every proof, test and must-fail edit, then the repository's own checks"
 	@echo 'make bench   the program beside other ones that copy captures, what functions cost per frame,'
 	@echo '             and what windows of samples, the board, rules, passes and sessions cost; never part of a test'

@@ -2,47 +2,53 @@
 # Replays every example with ./onvm, and compares what it emits, says and answers with what is
 # expected. Prints what is wrong and ends with status 1, or else prints how many passed.
 #
-# An example is a folder: command is one line, whose word OUT stands for a file of this check's own.
-# expected.pcap is what is emitted (without it nothing is created), expected.txt what is said
-# (without it nothing), status the exit status (without it 0).
+# An example is a folder. Each line of its file command is a run, and the word OUT stands there for a
+# file of this check's own. expected.txt is what the runs say, one behind the other. Each of them emits
+# the capture expected.pcap, or one whose SHA-256 is expected.sha256, or without these creates nothing,
+# and ends with the status in the file status, or without it with 0.
 . "$(dirname "$0")/begin.sh"
+out=$room/out.pcap
 
 complain() {
     echo "$folder: $1"
     well=false
 }
 
+# Whether what the last run emitted is what is expected.
+emits_well() {
+    if [ -f "$folder/expected.pcap" ]; then
+        cmp "$folder/expected.pcap" "$out"
+    elif [ -f "$folder/expected.sha256" ]; then
+        [ "$(sha256sum <"$out")" = "$(cat "$folder/expected.sha256")  -" ]
+    else
+        [ ! -e "$out" ]
+    fi
+}
+
+# Makes the run of the command $line.
+try() {
+    set --
+    for word in $line; do
+        [ "$word" = OUT ] && word=$out
+        set -- "$@" "$word"
+    done
+    rm -f "$out"
+    "$@" </dev/null >>"$room/said"
+    status=$?
+    [ "$status" = "$wanted" ] || complain "the status is $status, and not $wanted: $line"
+    emits_well || complain "it emits something else: $line"
+}
+
 for folder in examples/*/; do
     folder=${folder%/}
     well=true
-    rm -f "$room"/*
-    set --
-    for word in $(cat "$folder/command"); do
-        [ "$word" = OUT ] && word=$room/out.pcap
-        set -- "$@" "$word"
-    done
-    if [ $# -eq 0 ]; then
-        complain "it has no command"
-    else
-        "$@" >"$room/said"
-        status=$?
-        wanted=0
-        [ -f "$folder/status" ] && wanted=$(cat "$folder/status")
-        [ "$status" = "$wanted" ] || complain "the status is $status, and not $wanted"
-        said=/dev/null
-        [ -f "$folder/expected.txt" ] && said=$folder/expected.txt
-        cmp "$said" "$room/said" || complain "it says something else"
-        if [ -f "$folder/expected.pcap" ]; then
-            cmp "$folder/expected.pcap" "$room/out.pcap" || complain "it emits something else"
-        elif [ -e "$room/out.pcap" ]; then
-            complain "it creates an output"
-        fi
-    fi
+    wanted=0
+    [ -f "$folder/status" ] && wanted=$(cat "$folder/status")
+    : >"$room/said"
+    while read -r line; do try; done <"$folder/command"
+    diff "$folder/expected.txt" "$room/said" || complain "it says something else"
     if $well; then passed=$((passed + 1)); else wrong=$((wrong + 1)); fi
 done
 
-if [ "$passed" -eq 0 ] || [ "$wrong" -gt 0 ]; then
-    echo "examples: $passed passed, $wrong failed"
-    exit 1
-fi
-echo "examples: $passed passed"
+echo "examples: $passed passed, $wrong failed"
+[ "$passed" -gt 0 ] && [ "$wrong" -eq 0 ]

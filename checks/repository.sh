@@ -45,11 +45,11 @@ crates_named() {
 
 examples() {
     for folder in examples/*/; do
-        for name in chain.json command README.md; do
+        for name in chain.json command expected.txt README.md; do
             [ -f "$folder$name" ] || echo "$folder$name is not there"
         done
-        ls "$folder" | grep -q '^expected\.' || echo "$folder has no expected.pcap and no expected.txt"
-        ls "$folder" | grep -v '^expected\.' | grep -q '\.pcap$' || echo "$folder has no capture"
+        ls "$folder" | grep -v '^expected\.' | grep -q '\.pcap$' || grep -q ' gen:' "$folder/command" ||
+            echo "$folder has no capture"
     done
 }
 

@@ -1,6 +1,7 @@
 #!/bin/sh
-# show.sh EXAMPLE: replays an example from the repository's top, and prints its command, what the
-# program says, the emitted bytes in hexadecimal and the status. Ends with the program's status.
+# show.sh EXAMPLE: replays an example of one run from the repository's top, and prints its command,
+# what the program says, the emitted bytes in hexadecimal and the status. Ends with the program's
+# status.
 room=$(mktemp -d) || exit 1
 trap 'rm -rf "$room"' EXIT
 

@@ -18,6 +18,8 @@ const FLIPPED: [u8; 16] = [2, 0, 0, 0, 0, 1, 2, 0, 0, 0, 0, 2, 0x88, 0xb5, 1, 3]
 
 const MIRRORED: [u8; 16] = [2, 0, 0, 0, 0, 2, 2, 0, 0, 0, 0, 1, 0x88, 0xb5, 1, 2];
 
+const MIRRORED_AND_FLIPPED: [u8; 16] = [2, 0, 0, 0, 0, 2, 2, 0, 0, 0, 0, 1, 0x88, 0xb5, 1, 3];
+
 // Changes the lowest bit of the last byte of each packet. Whoever else has the count sees how often it
 // was called, and by the count's owners whether it is still there.
 #[derive(Drop)]
@@ -106,9 +108,7 @@ fn two_guests_of_a_chain_each_do_their_part(rt: HostRuntime) -> Result<(), Fail>
     let status = play(&rt, &mut host, &WORDS, guests)?;
     let lines = "record 0 1 sent 0\nrecord 0 2 sent 0\n";
     let said = all_sent(2).report(rt.alloc(), lines)?;
-    let mut both = MIRRORED;
-    both[15] = 3;
-    let output = emitted(rt.alloc(), &[&both, &MIRRORED])?;
+    let output = emitted(rt.alloc(), &[&MIRRORED_AND_FLIPPED, &MIRRORED])?;
     compare(&rt, &host, status, done(&said, &output), "two guests")
 }
 
