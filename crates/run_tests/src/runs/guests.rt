@@ -80,7 +80,11 @@ fn a_guest_is_called_for_each_frame_and_dropped(rt: HostRuntime) -> Result<(), F
     Ok(())
 }
 
-fn guest_with(alloc: Global, name: &str, function: Box<dyn NetFunction + Send>) -> Result<Guest, Fail> {
+fn guest_with(
+    alloc: Global,
+    name: &str,
+    function: Box<dyn NetFunction + Send>,
+) -> Result<Guest, Fail> {
     Ok(Guest {
         name: Name::from_slice(alloc, name.as_bytes())?,
         function,

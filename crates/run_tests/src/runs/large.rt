@@ -2,7 +2,7 @@
 
 use super::expected::{NONE, Summary, all_sent};
 use super::frames::{ADDRESSES, MICROS, NANOS, add_record, empty_records};
-use super::hosts::{compare, done, expect, host_of, play, refused, sound};
+use super::hosts::{SPACE, compare, done, expect, host_of, play, refused, sound};
 use super::texts::{FORWARDING, LONG_CHAIN};
 use onvm_base::Status;
 use onvm_host::MemHost;
@@ -85,12 +85,27 @@ fn a_hundred_thousand_frames_are_made_and_sent(rt: HostRuntime) -> Result<(), Fa
     let mut host = host_of(rt.alloc(), &given, &[], 110_000_000)?;
     let words = ["--serial", "--shares", "c", "o", "gen:7:100000"];
     let status = play(&rt, &mut host, &words, Vec::new(rt.alloc()))?;
-    let words = ["--serial", "--shares", "c", "again", "gen:7:100000"];
-    let again = play(&rt, &mut host, &words, Vec::new(rt.alloc()))?;
-    assert_eq!(rt; (status, again), (Status::Done, Status::Done));
+    assert_eq!(rt; status, Status::Done);
+    assert_eq!(rt; host.said(), said.as_bytes());
+    Ok(())
+}
+
+#[test]
+fn generated_frames_are_the_same_at_each_run(rt: HostRuntime) -> Result<(), Fail> {
+    let given = [sound("c", FORWARDING.as_bytes())];
+    let mut host = host_of(rt.alloc(), &given, &[], SPACE)?;
+    for output in ["o", "again"] {
+        let words = ["--serial", "c", output, "gen:7:2000"];
+        let status = play(&rt, &mut host, &words, Vec::new(rt.alloc()))?;
+        assert_eq!(rt; status, Status::Done);
+    }
+    let said = all_sent(2000).report(rt.alloc(), "")?;
     let twice = format!(in rt.alloc(); "{said}{said}")?;
     assert_eq!(rt; host.said(), twice.as_bytes());
-    assert!(rt; host.file("o").is_some_and(|output| output.len() > 100_000));
+    assert!(rt;
+        host.file("o")
+            .is_some_and(|output| output.len() > 2000 * 76)
+    );
     assert!(rt; host.file("o") == host.file("again"));
     Ok(())
 }
@@ -103,9 +118,8 @@ fn segment(alloc: Global, port: u8, number: u32) -> Result<Vec<u8>, Fail> {
     frame.extend_from_slice(&[0x9c, port, 0, 80])?;
     frame.extend_from_slice(&number.to_be_bytes())?;
     frame.extend_from_slice(&[0, 0, 0, 0, 0x50, 0x10, 0xff, 0xff, 0, 0, 0, 0])?;
-    for _ in 0..1460 {
-        frame.push((number % 251) as u8)?;
-    }
+    let payload = vec![in alloc; (number % 251) as u8; 1460]?;
+    frame.extend_from_slice(&payload)?;
     Ok(frame)
 }
 
@@ -154,7 +168,7 @@ fn host_of_segments(alloc: Global, segments: &Segments) -> Result<MemHost, Fail>
         sound("l", second),
     ];
     assert_sizes(segments)?;
-    host_of(alloc, &given, &[], 4_200_000)
+    host_of(alloc, &given, &[], SPACE)
 }
 
 // Each segment has 1,514 bytes and a head of 16.
