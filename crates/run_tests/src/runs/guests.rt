@@ -1,11 +1,11 @@
 //! Functions that the caller of a run hands in.
 
 use super::expected::all_sent;
-use super::frames::{CAPTURE, FRAME, altered, captured, emitted};
+use super::frames::{CAPTURE, altered, emitted};
 use super::hosts::{SPACE, compare, done, host_of, play, refused, sound};
 use super::texts::{FORWARDING, one_function};
 use nf_api::{Guest, Meta, NetFunction};
-use nf_guests::{Flip, Mirror};
+use nf_guests::Flip;
 use onvm_base::{Name, NoMemory, Packet, Status, Verdict};
 use std::alloc::Global;
 use std::sync::Arc;
@@ -15,10 +15,6 @@ use std::test::Fail;
 const WORDS: [&str; 5] = ["--serial", "--records", "c", "o", "k"];
 
 const FLIPPED: [u8; 16] = [2, 0, 0, 0, 0, 1, 2, 0, 0, 0, 0, 2, 0x88, 0xb5, 1, 3];
-
-const MIRRORED: [u8; 16] = [2, 0, 0, 0, 0, 2, 2, 0, 0, 0, 0, 1, 0x88, 0xb5, 1, 2];
-
-const MIRRORED_AND_FLIPPED: [u8; 16] = [2, 0, 0, 0, 0, 2, 2, 0, 0, 0, 0, 1, 0x88, 0xb5, 1, 3];
 
 // Changes the lowest bit of the last byte of each packet. Whoever else has the count sees how often it
 // was called, and by the count's owners whether it is still there.
@@ -66,7 +62,7 @@ fn a_guest_is_called_for_each_frame_and_dropped(rt: HostRuntime) -> Result<(), F
     let given = [sound("c", file.as_bytes()), sound("k", &CAPTURE)];
     let mut host = host_of(rt.alloc(), &given, &[], SPACE)?;
     let status = play(&rt, &mut host, &WORDS, guests)?;
-    let said = all_sent(1).report(rt.alloc(), "record 0 1 sent 0\n")?;
+    let said = all_sent(rt.alloc(), 1, "record 0 1 sent 0\n")?;
     let output = emitted(rt.alloc(), &[&FLIPPED])?;
     compare(
         &rt,
@@ -78,42 +74,6 @@ fn a_guest_is_called_for_each_frame_and_dropped(rt: HostRuntime) -> Result<(), F
     assert_eq!(rt; calls_and_owners(&named), (1, 1));
     assert_eq!(rt; calls_and_owners(&spare), (0, 1));
     Ok(())
-}
-
-fn guest_with(
-    alloc: Global,
-    name: &str,
-    function: Box<dyn NetFunction + Send>,
-) -> Result<Guest, Fail> {
-    Ok(Guest {
-        name: Name::from_slice(alloc, name.as_bytes())?,
-        function,
-    })
-}
-
-fn flip_and_mirror(alloc: Global) -> Result<Vec<Guest>, Fail> {
-    let flip: Box<dyn NetFunction + Send> = Box::new(alloc, Flip { handled: 0 })?;
-    let mirror: Box<dyn NetFunction + Send> = Box::new(alloc, Mirror)?;
-    let mut guests = Vec::new(alloc);
-    guests.push(guest_with(alloc, "flip", flip)?)?;
-    guests.push(guest_with(alloc, "mirror", mirror)?)?;
-    Ok(guests)
-}
-
-// The chain goes through both, and a third function hands the frame on.
-#[test]
-fn two_guests_of_a_chain_each_do_their_part(rt: HostRuntime) -> Result<(), Fail> {
-    let file =
-        r#"{"version":1,"ports":1,"cores":2,"functions":[{"name":"f","service":1,"core":0,"kind":"guest","guest":"mirror"},{"name":"g","service":2,"core":1,"kind":"guest","guest":"flip"}],"chains":[{"name":"a","steps":[{"to":2},{"to":1},{"out":0}]}],"default":"a"}"#;
-    let guests = flip_and_mirror(rt.alloc())?;
-    let capture = captured(rt.alloc(), &[&FRAME, &FLIPPED])?;
-    let given = [sound("c", file.as_bytes()), sound("k", &capture)];
-    let mut host = host_of(rt.alloc(), &given, &[], SPACE)?;
-    let status = play(&rt, &mut host, &WORDS, guests)?;
-    let lines = "record 0 1 sent 0\nrecord 0 2 sent 0\n";
-    let said = all_sent(2).report(rt.alloc(), lines)?;
-    let output = emitted(rt.alloc(), &[&MIRRORED_AND_FLIPPED, &MIRRORED])?;
-    compare(&rt, &host, status, done(&said, &output), "two guests")
 }
 
 #[test]
