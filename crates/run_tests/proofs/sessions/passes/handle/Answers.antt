@@ -6,7 +6,7 @@ use Rattle.onvm_promises.specs.Sampling.{AreTimed, is_cost}
 use Rattle.run_tests.proofs.sessions.passes.handle.Goals as goal
 
 pub pass-requires-clause-role : goal.pass-requires-clause-role
-pass-requires-clause-role g c =
+pass-requires-clause-role g c κs within =
     let site = c.args.board.now in
     let fresh = c.requires.token in
     let number : c.args.token.role ≡ site.layout.ports + site.layout.transmit + 0 =
@@ -17,5 +17,5 @@ pass-requires-clause-role g c =
     (record { board = fresh.board; role = number; log = fresh.log; hand = fresh.empty_handed }))
 
 pub pass-requires-clause-timed : goal.pass-requires-clause-timed
-pass-requires-clause-timed g c =
+pass-requires-clause-timed g c κs within =
     subst (λ (log : Log). AreTimed is_cost c.args.plan.now log) (sym c.requires.token.log) tt
