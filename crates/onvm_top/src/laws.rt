@@ -80,8 +80,8 @@ pub fn unread()
         × (file_of name files ≡ Some (front ++ rest)) × IsSoundSoFar front) }
 {}
 
-/// With a good chain file and good captures, and without a fault among the calls, a run is done or
-/// memory ran out.
+/// With a good chain file and good captures, a run that blames neither an input nor the output, as it
+/// does only where one of its calls is a fault, is done or memory ran out.
 pub fn complete()
     ensures { (words guests : List (List ℕ)) (told told_now : Option Entries) (answer : Status)
         → IsTrueStatus words guests told told_now answer
