@@ -38,8 +38,11 @@ impl Clock for StepClock {
     }
 }
 
-/// What a role is to pass before each of its passes. No code calls it yet.
+/// What a role is to pass before each of its passes, where roles run beside each other. Where they take
+/// turns it isn't called.
 pub trait Gate: Sync {
+    /// The role with this number is about to make the pass with this one. The numbers of a role's
+    /// passes begin with 0, and rise.
     fn turn(&self, role: u32, pass: u64);
 }
 

@@ -34,11 +34,11 @@ use Rattle.onvm_session.proofs.Done.{done}
 use Rattle.onvm_session.proofs.Growing.{got_some}
 use Rattle.onvm_session.proofs.RolePasses.{ready_kind, setting_is}
 use Rattle.onvm_session.proofs.LeftLists.{AreOfKinds, ticks_left}
-use Rattle.onvm_session.proofs.PutTogether.{AreLeftOf, keeps_other, kinds_then, run_lists, set_there}
+use Rattle.onvm_session.proofs.PutTogether.{keeps_other, kinds_then, run_lists, set_there}
 use Rattle.onvm_session.proofs.SessionLists.{closing_counted, frames_pulled, session_lists}
 use Rattle.onvm_session.specs.Accounts.{IsAccounted}
 use Rattle.onvm_session.specs.Boards.{view_of_closed, view_of_token}
-use Rattle.onvm_session.specs.Closings.{IsClosingTurn, IsRunOfKept, IsRunOfLists}
+use Rattle.onvm_session.specs.Closings.{AreLeftOf, IsBoardOf, IsClosingTurn, IsRunOfKept, IsRunOfLists}
 use Rattle.onvm_session.specs.Endings.{Closes, IsClosed}
 use Rattle.onvm_session.specs.Gathering.{AreRunLists, feeders_kept, recorded_count}
 use Rattle.onvm_session.specs.Managers.{FitsAll, IsManager, IsOver, IsUnderway, keeps_at, keeps_in, place_now, pulled_at, round_now, states_in}
@@ -51,14 +51,6 @@ use Rattle.onvm_session.specs.Sessions.{after_turn}
 pub when_ok : {T E P : Type 0} (answer : Result T E) → is_err answer ≡ false → OnOk answer P → P
 when_ok (Ok x) fine holds = holds
 when_ok (Err e) fine holds = absurd (cc fine)
-
--- the board that was closed is the manager's
-pub record IsBoardOf {I N : Type 0} (manager : Manager I N) (closed : ClosedView) : Type 0 where
-  pub layout : closed.layout ≡ manager.board.layout
-  pub log : closed.log ≡ manager.first.log
-  pub logs : closed.logs ≡ manager.first.logs
-  pub counts : closed.counts ≡ manager.first.counts
-  pub history : (past : _) × IsEndOf closed past
 
 -- Frames
 

@@ -80,15 +80,6 @@ feeds_left {I} (role ∷ roles) old new left =
 
 -- The run
 
--- these roles have left, the first of them where none had
-pub record AreLeftOf {I N : Type 0} (roles : List (Role I N)) (none left : Leavings I) : Type 0 where
-  pub records : none.gathered.records.items ≡ []
-  pub sent : none.gathered.sent.items ≡ []
-  pub posts : none.gathered.posts.items ≡ []
-  pub yields : none.gathered.yields ≡ 0
-  pub lost : none.gathered.lost ≡ 0
-  pub left_are : HaveLeft roles none left
-
 feeders_same : {A : Type 0} (part : FeederKeeps → List A) (was now : ℕ → Keeps) (n : ℕ)
     → ((r : ℕ) → r < n → was r ≡ now r) → feeders_kept part was n ≡ feeders_kept part now n
 feeders_same part was now zero same = refl

@@ -1,9 +1,9 @@
 -- The closing turn of a manager, and the run that is put together behind it.
-use Rattle.std.specs.Prelude.{ℕ, ◌≡◌, Bool, true, List, Some, Result, Ok, Err, slice_get, slice_set}
+use Rattle.std.specs.Prelude.{ℕ, ◌≡◌, Bool, true, List, [], Some, Result, Ok, Err, slice_get, slice_set}
 use Rattle.onvm_base.specs.declared.plan.Plan.{Plan}
 use Rattle.onvm_core.specs.Layouts.{tick_role}
 use Rattle.onvm_core.specs.Logs.{Log, Setting}
-use Rattle.onvm_board.specs.Closing.{ClosedView}
+use Rattle.onvm_board.specs.Closing.{ClosedView, IsEndOf}
 use Rattle.onvm_board.specs.Rule.{AllJoined}
 use Rattle.onvm_board.specs.Tokens.{IsFirstToken, kept_log}
 use Rattle.load_estimate.specs.declared.sample.Sample.{Sample}
@@ -13,14 +13,17 @@ use Rattle.onvm_promises.specs.Answers.{is_complete}
 use Rattle.onvm_promises.specs.Roles.{IsTickPromise, IsTickerSoFar}
 use Rattle.tick_pass.specs.declared.role.TickRole.{TickRole}
 use Rattle.tick_pass.specs.Roles.{first_of, logged, ticked}
+use Rattle.onvm_session.specs.declared.leaving.Leavings.{Leavings}
 use Rattle.onvm_session.specs.declared.lists.Gathered.{Gathered}
 use Rattle.onvm_session.specs.declared.manager.Manager.{Manager}
+use Rattle.onvm_session.specs.declared.role.Role.{Role}
 use Rattle.onvm_session.specs.declared.role.Role.TheVariants.{Tick}
 use Rattle.onvm_session.specs.declared.run.Run.{Run}
 use Rattle.onvm_session.specs.declared.run.Stop.{Stop}
 use Rattle.onvm_session.specs.declared.run.Stop.TheVariants.{Memory}
 use Rattle.onvm_session.specs.Boards.{view_of_token}
 use Rattle.onvm_session.specs.Gathering.{IsByFrame}
+use Rattle.onvm_session.specs.Leaving.{HaveLeft}
 use Rattle.onvm_session.specs.Sessions.{after_turn}
 
 -- the tick role made its closing pass at this moment, in a turn of its own
@@ -61,3 +64,33 @@ abbrev pub IsRunOfLists : (complete : Bool) → Gathered → List Sample → Lis
 IsRunOfLists complete gathered samples ticks closed (Ok run) =
     (complete ≡ true) × IsRunOfKept gathered samples ticks closed run
 IsRunOfLists complete gathered samples ticks closed (Err stop) = stop ≡ Memory
+
+-- The whole end
+
+-- the board that was closed is the manager's
+pub record IsBoardOf {I N : Type 0} (manager : Manager I N) (closed : ClosedView) : Type 0 where
+  pub layout : closed.layout ≡ manager.board.layout
+  pub log : closed.log ≡ manager.first.log
+  pub logs : closed.logs ≡ manager.first.logs
+  pub counts : closed.counts ≡ manager.first.counts
+  pub history : (past : _) × IsEndOf closed past
+
+-- these roles have left, the first of them where none had
+pub record AreLeftOf {I N : Type 0} (roles : List (Role I N)) (none left : Leavings I) : Type 0 where
+  pub records : none.gathered.records.items ≡ []
+  pub sent : none.gathered.sent.items ≡ []
+  pub posts : none.gathered.posts.items ≡ []
+  pub yields : none.gathered.yields ≡ 0
+  pub lost : none.gathered.lost ≡ 0
+  pub left_are : HaveLeft roles none left
+
+-- the run behind a closing turn at this moment: of the board that was closed then, and of what the roles left
+pub record IsClosedRun {I N : Type 0} (plan : Plan) (now : ℕ) (manager : Manager I N) (run : Run) : Type 0 where
+  pub later : Manager I N
+  pub none : Leavings I
+  pub left : Leavings I
+  pub closed : ClosedView
+  pub turn : IsClosingTurn plan now manager later
+  pub board_of : IsBoardOf later closed
+  pub left_of : AreLeftOf later.roles.items none left
+  pub lists : IsRunOfLists left.complete left.gathered left.samples left.ticks closed (Ok run)

@@ -10,6 +10,7 @@ pub mod Moments
 pub mod RoleStates
 pub mod Rooms
 pub mod Runs
+pub mod Seats
 pub mod SerialTicks
 pub mod Sessions
 pub mod Starts

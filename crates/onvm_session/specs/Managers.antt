@@ -1,5 +1,5 @@
 -- A manager between turns: the board, the first token, and the roles.
-use Rattle.std.specs.Prelude.{ℕ, ◌≡◌, ◌≢◌, ◌+◌, ◌<◌, Bool, true, List, length, Option, Some, None, slice_get}
+use Rattle.std.specs.Prelude.{ℕ, ◌≡◌, ◌≢◌, ◌+◌, ◌<◌, ◌≤◌, Bool, true, false, List, length, Option, Some, None, slice_get}
 use Rattle.onvm_base.specs.declared.plan.Plan.{Plan}
 use Rattle.onvm_core.specs.declared.layout.Layout.{Layout}
 use Rattle.onvm_core.specs.Layouts.{IsLayout, IsLayoutOf, core_role, first_role}
@@ -144,3 +144,16 @@ module _ {N : Type 0} (acts : N → Acts) (state : N → Tree) where
     pub on : (first : ℕ) (units : List N) (setting : Setting) → FitsAll plan setting new
         → IsUnderway serial may_tell cost_may_take first units setting old
         → IsUnderway serial may_tell cost_may_take first units setting new
+
+  -- the session by phases so far, whose ticks are up to this moment
+  pub record IsUnderwayAt {I : Type 0} (may_tell : ℕ → Type 0) (cost_may_take : ℕ → ℕ → Type 0) (first now : ℕ)
+      (units : List N) (setting : Setting) (manager : Manager I N) : Type 0 where
+    pub underway : IsUnderway false may_tell cost_may_take first units setting manager
+    pub reached : underway.latest ≤ now
+
+  -- what a session by phases was, up to a moment, it stays behind phases, up to a later one
+  pub record GoesOnTo {I : Type 0} (may_tell : ℕ → Type 0) (cost_may_take : ℕ → ℕ → Type 0) (plan : Plan) (was now : ℕ)
+      (old new : Manager I N) : Type 0 where
+    pub on : (first : ℕ) (units : List N) (setting : Setting) → FitsAll plan setting new
+        → IsUnderwayAt may_tell cost_may_take first was units setting old
+        → IsUnderwayAt may_tell cost_may_take first now units setting new

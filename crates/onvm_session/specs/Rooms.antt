@@ -117,39 +117,40 @@ AreFresh {I} feeds = (port : ℕ) (feed : Feed I) → slice_get feeds port ≡ S
 
 module _ {I N : Type 0} (name_of : I → List ℕ) (left_of : I → Option (List ℕ)) (takes_of : I → Amounts)
     (acts : N → Acts) (state : N → Tree) where
-  -- with the token of this number that has made no act it is ready for a pass
-  pub record IsNewRole (site : BoardView) (plan : Plan) (units : List N) (feeds : List (Feed I)) (r : ℕ) (role : Role I N)
-      : Type 0 where
+  -- a role that began at this moment: with the token of this number that has made no act it is ready for a pass
+  pub record IsNewRole (site : BoardView) (plan : Plan) (units : List N) (feeds : List (Feed I)) (first r : ℕ)
+      (role : Role I N) : Type 0 where
     pub ready : (token : TokenView) → token.board ≡ site.id → token.role ≡ r
         → token.log ≡ [] → token.hand ≡ [] → IsReady acts state is_cost site plan token role
     pub in_order : (setting : Setting) (moment : ℕ → ℕ) → FitsOne site.layout plan r role setting
         → IsRoleInOrder setting r moment [] role
-    pub started : StartedAt 0 role
+    pub started : StartedAt first role
     pub bound : IsBoundTo acts state site.layout r units role
     -- its functions are in the states of their units
     pub states : HasStates acts state site.layout r role (start_by acts state units)
     pub unticked : (keeps_of role).ticks ≡ []
     pub fed : IsFed name_of left_of takes_of (slice_get feeds r) role
-    pub upto : IsUpTo 0 role
+    pub upto : IsUpTo first role
 
-  -- so many roles, which have done nothing
-  pub record AreNewUpTo (site : BoardView) (plan : Plan) (units : List N) (feeds : List (Feed I)) (n : ℕ)
+  -- so many roles that began at this moment, and have done nothing
+  pub record AreNewUpTo (site : BoardView) (plan : Plan) (units : List N) (feeds : List (Feed I)) (first n : ℕ)
       (roles : List (Role I N)) : Type 0 where
     pub many : length roles ≡ n
-    pub each : OfEach (IsNewRole site plan units feeds) roles
+    pub each : OfEach (IsNewRole site plan units feeds first) roles
 
-  pub record AreNewRoles (site : BoardView) (plan : Plan) (units : List N) (feeds : List (Feed I)) (roles : List (Role I N))
-      : Type 0 where
+  pub record AreNewRoles (site : BoardView) (plan : Plan) (units : List N) (feeds : List (Feed I)) (first : ℕ)
+      (roles : List (Role I N)) : Type 0 where
     pub many : length roles ≡ first_role site.layout
-    pub each : OfEach (IsNewRole site plan units feeds) roles
+    pub each : OfEach (IsNewRole site plan units feeds first) roles
 
-  -- a session of which no turn was made, on a board of the plan
-  pub record IsNewManager (plan : Plan) (units : List N) (given : List (Feed I)) (manager : Manager I N) : Type 0 where
+  -- a session that began at this moment and of which no turn was made, on a board of the plan
+  pub record IsNewManager (plan : Plan) (units : List N) (given : List (Feed I)) (first_moment : ℕ) (manager : Manager I N)
+      : Type 0 where
     pub layout_is : manager.layout ≡ manager.board.layout
     pub layout_of : IsLayoutOf plan manager.board.layout
     pub ranges : IsLayout manager.board.layout
     pub registry : manager.registry ≡ plan
     pub first : manager.first ≡ first_token manager.board
-    pub roles : AreNewRoles manager.board plan units given manager.roles.items
+    pub roles : AreNewRoles manager.board plan units given first_moment manager.roles.items
     pub feeds : manager.feeds.items ≡ []
     pub feed_room : plan.ports ≤ vec_capacity manager.feeds

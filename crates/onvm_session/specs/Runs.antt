@@ -1,5 +1,5 @@
 -- What a session answers.
-use Rattle.std.specs.Prelude.{ℕ, ◌≡◌, ◌<◌, true, List, length, Option, Some, None, slice_get}
+use Rattle.std.specs.Prelude.{ℕ, ◌≡◌, ◌<◌, Bool, true, false, List, length, Option, Some, None, slice_get}
 use Rattle.onvm_base.specs.declared.plan.Plan.{Plan}
 use Rattle.onvm_core.specs.Journals.{Handling}
 use Rattle.onvm_core.specs.Logs.{Setting}
@@ -33,9 +33,23 @@ view_of_run run =
       final = view_of_closed run.closed;
     }
 
--- in a serial session the clock isn't asked
+-- a clock isn't asked for moments, or spans
+
 abbrev pub any_moment : ℕ → Type 0
 any_moment moment = Unit {0}
+
+abbrev pub any_span : (cost span : ℕ) → Type 0
+any_span cost span = Unit {0}
+
+-- the moments and spans that may be told: in a serial session no clock is asked, and a frame takes its function's cost
+
+abbrev pub told_by : Bool → (may_tell : ℕ → Type 0) → ℕ → Type 0
+told_by true may_tell = any_moment
+told_by false may_tell = may_tell
+
+abbrev pub taken_by : Bool → (cost_may_take : ℕ → ℕ → Type 0) → ℕ → ℕ → Type 0
+taken_by true cost_may_take = is_cost
+taken_by false cost_may_take = cost_may_take
 
 -- the fault of a port that a stop tells
 abbrev pub told_fault : Stop → Option (ℕ × FeedFault)
@@ -60,15 +74,16 @@ module _ {I : Type 0} (name_of : I → List ℕ) (left_of : I → Option (List �
     pub stand : (port : ℕ) → port < plan.ports → (s : Standing) × StandsWith feeds back port s
 
   -- each capture was pulled to its end, and each frame is accounted for
-  pub record IsDone {S : Type 0} (acts : ℕ → S → Handling → S → Type 0) (start : ℕ → S) (plan : Plan)
-      (feeds back : List (Feed I)) (run : Run) : Type 0 where
+  pub record IsDone {S : Type 0} (serial : Bool) (may_tell : ℕ → Type 0) (cost_may_take : ℕ → ℕ → Type 0)
+      (acts : ℕ → S → Handling → S → Type 0) (start : ℕ → S) (plan : Plan) (feeds back : List (Feed I)) (run : Run)
+      : Type 0 where
     pub standings : ℕ → Standing
     pub stand : (port : ℕ) → port < plan.ports → StandsWith feeds back port (standings port)
     pub ended : (port : ℕ) → port < plan.ports → (standings port).ended ≡ true
     -- the frames make a run, and of each run that they make
     pub run_is : (setting : Setting) × IsRunOf plan (λ port. (standings port).pulled) setting
     pub accounted : (setting : Setting) → IsRunOf plan (λ port. (standings port).pulled) setting
-        → IsAccounted true any_moment is_cost acts start setting (view_of_run run)
+        → IsAccounted serial (told_by serial may_tell) (taken_by serial cost_may_take) acts start setting (view_of_run run)
     -- as many records as frames
     pub counted : (setting : Setting) → IsRunOf plan (λ port. (standings port).pulled) setting
         → length run.records ≡ length setting.entries

@@ -164,7 +164,7 @@ lengths_of logs (suc n) = length (logs n) ∷ lengths_of logs n
 abbrev pub after_phase : (roles seen : ℕ) → (ℕ → Log) → FinalView → FinalView
 after_phase roles seen logs final =
     record {
-      lead = closing_look seen ∷ joins roles ++ splits roles ++ final.lead;
+      lead = closing_look seen ∷ joins roles ++ splits roles 0 ++ final.lead;
       logs = logs;
       counts = lengths_of logs roles ++ final.counts;
     }

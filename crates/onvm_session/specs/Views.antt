@@ -72,11 +72,12 @@ pub data AreTurns (layout : Layout) : Log → Type 0 where
   ATurn : (seen : ℕ) (before : Log) → AreTurns layout before
       → AreTurns layout (turn_of (role_at layout (place_in layout before)) seen ++ before)
 
--- the roles below n are split, or joined, in order
-abbrev pub splits : ℕ → Log
-splits zero = []
-splits (suc n) = Split n ∷ splits n
+-- so many roles from this one on are split, the last one first
+abbrev pub splits : (many role : ℕ) → Log
+splits zero role = []
+splits (suc n) role = Split role ∷ splits n (role + 1)
 
+-- the roles below n are joined, in order
 abbrev pub joins : ℕ → Log
 joins zero = []
 joins (suc n) = Join n ∷ joins n
@@ -85,7 +86,7 @@ joins (suc n) = Join n ∷ joins n
 pub data ArePhases (layout : Layout) : Log → Type 0 where
   NoPhase : ArePhases layout []
   APhase : (seen : ℕ) (before : Log) → ArePhases layout before
-      → ArePhases layout (closing_look seen ∷ joins (first_role layout) ++ splits (first_role layout) ++ before)
+      → ArePhases layout (closing_look seen ∷ joins (first_role layout) ++ splits (first_role layout) 0 ++ before)
 
 -- whole rounds, and a turn of the tick role that closes the run
 pub record IsSerialLead (layout : Layout) (lead : Log) : Type 0 where

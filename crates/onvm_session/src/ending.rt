@@ -1,14 +1,8 @@
 //! How a session ends.
 ghost use Rattle.std.specs.Prelude.{◌≡◌, ◌+◌, ◌-◌, ◌<◌, ◌≤◌, ◌++◌, ℕ, Err, IfErr, IfOk, IsSome, List, OnErr, OnOk, Some, length, slice_get, true, vec_capacity, vec_len};
-ghost use Rattle.onvm_core.specs.Logs.{Setting};
-ghost use Rattle.onvm_core.specs.Settings.{frame_count};
-ghost use Rattle.onvm_promises.specs.Sampling.{is_cost};
 ghost use Rattle.rx_feed.specs.declared.fault.FeedFault.{FeedFault as FaultView};
-ghost use Rattle.onvm_session.specs.Accounts.{IsAccounted};
-ghost use Rattle.onvm_session.specs.Closings.{IsClosingTurn, IsRunOfLists};
-ghost use Rattle.onvm_session.specs.Moments.{moment_of_round};
-ghost use Rattle.onvm_session.specs.RoleStates.{acts_by, start_by};
-ghost use Rattle.onvm_session.specs.Runs.{any_moment, told_fault, view_of_run};
+ghost use Rattle.onvm_session.specs.Closings.{IsClosedRun, IsClosingTurn, IsRunOfLists};
+ghost use Rattle.onvm_session.specs.Runs.{any_span, told_fault};
 ghost use Rattle.onvm_session.specs.declared.run.Stop.TheVariants.{Memory};
 
 use crate::leaving::Leavings;
@@ -77,7 +71,7 @@ impl<I: Drop> Leavings<I> {
 
 impl<I: Source + Drop, N: NetFunction> Manager<I, N> {
     ghost use Rattle.onvm_session.specs.Leaving.{feeds_of};
-    ghost use Rattle.onvm_session.specs.Managers.{AllGrow, FitsAll, HasFault, IsDrainedAt, IsManager, IsOver, IsUnderway, OfEach, place_now, round_now};
+    ghost use Rattle.onvm_session.specs.Managers.{AllGrow, HasFault, IsDrainedAt, IsManager, OfEach};
     ghost use Rattle.onvm_session.specs.RoleStates.{HasNoMore, IsUpTo, fault_of};
     ghost use Rattle.onvm_session.specs.declared.role.Role.{Role as RoleView};
 
@@ -127,9 +121,9 @@ impl<I: Source + Drop, N: NetFunction> Manager<I, N> {
         }
     }
 
-    // The last turn: the tick role makes its closing pass at the last round's moment.
+    // The last turn: the tick role makes its closing pass at this moment.
     fn closing_turn(&mut self, plan: &Plan, now: u64) -> Result<(), NoMemory>
-        requires manager { IsManager N.acts N.state is_cost plan.now self.old }
+        requires manager { IsManager N.acts N.state any_span plan.now self.old }
         requires upto { OfEach (λ r role. IsUpTo now role) self.old.roles.items }
         ensures turn { OnOk result (IsClosingTurn plan.now now self.old self.new) }
         ensures feeds { (feeds_of self.new.roles.items ≡ feeds_of self.old.roles.items)
@@ -151,24 +145,14 @@ impl<I: Source + Drop, N: NetFunction> Manager<I, N> {
         Ok(())
     }
 
-    /// Makes the closing turn, closes the board, and puts the lists together.
+    /// Makes the closing turn at this moment, closes the board, and puts the lists together.
     pub fn finish(mut self, alloc: Global, plan: &Plan, now: u64) -> Ended<I>
-        requires manager { IsManager N.acts N.state is_cost plan.now self }
+        requires manager { IsManager N.acts N.state any_span plan.now self }
         requires upto { OfEach (λ r role. IsUpTo now role) self.roles.items }
-        requires place { place_now self ≡ 0 }
-        requires some { 0 < round_now self }
-        requires now { now ≡ moment_of_round (round_now self - 1) }
-        requires over { IsOver self }
         requires room { vec_len self.feeds + length (feeds_of self.roles.items) ≤ vec_capacity self.feeds }
         ensures feeds { result.feeds ≡ self.feeds.items ++ feeds_of self.roles.items }
         ensures stop { IfErr result.outcome (λ stop. stop ≡ Memory) }
-        ensures done { IfOk result.outcome (λ run. (units : List N) (setting : Setting)
-            → FitsAll plan.now setting self
-            → IsUnderway N.acts N.state true any_moment is_cost 0 units setting self
-            → IsAccounted true any_moment is_cost (acts_by N.acts N.state units) (start_by N.acts N.state units)
-            setting (view_of_run run)) }
-        ensures counted { IfOk result.outcome (λ run. (setting : Setting) → FitsAll plan.now setting self
-            → length run.records ≡ frame_count setting) }
+        ensures done { IfOk result.outcome (λ run. IsClosedRun plan.now now self run) }
     {
         if self.closing_turn(plan, now).is_err() {
             return self.hand_back(alloc, Stop::Memory);

@@ -14,9 +14,12 @@ mod leaving;
 mod lists;
 mod manager;
 mod new_roles;
+mod pace;
+mod phases;
 mod role;
 mod rooms;
 mod run;
+mod seat;
 mod surroundings;
 
 pub use lists::{Gathered, RunLists};

@@ -229,8 +229,8 @@ impl<I, N> Manager<I, N> {
         recorded
     }
 
-    // Whether the session is over.
-    fn is_over(&self) -> bool
+    /// Whether the session is over.
+    pub fn is_over(&self) -> bool
         requires layout { self.now.layout ≡ self.now.board.layout }
         requires roles { self.now.layout.ports + self.now.layout.transmit ≤ length self.now.roles.items }
         ensures { IsTrue result ↔ IsOver self.now }

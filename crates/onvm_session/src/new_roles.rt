@@ -25,18 +25,18 @@ use tx_pass::TxRoom;
 fn receiver<I: Source + Drop, N: NetFunction>(room: RxRoom, feed: Option<Feed<I>>) -> Role<I, N>
     requires room { IsRoom room.intake }
     requires fresh { IsFreshFeed feed }
-    ensures { (site : BoardView) (plan : PlanView) (units : List N) (feeds : List (Feed I)) (port : PortId)
+    ensures { (site : BoardView) (plan : PlanView) (units : List N) (feeds : List (Feed I)) (first : ℕ) (port : PortId)
         → IsLayoutOf plan site.layout → IsNewReceiverRoom site plan port room
         → slice_get feeds port.0 ≡ feed
-        → IsNewRole I.name I.left I.takes N.acts N.state site plan units feeds port.0 result }
+        → IsNewRole I.name I.left I.takes N.acts N.state site plan units feeds first port.0 result }
 {
     Role::Receive(room.start(feed))
 }
 
 fn sender<I: Source + Drop, N: NetFunction>(room: TxRoom) -> Role<I, N>
-    ensures { (site : BoardView) (plan : PlanView) (units : List N) (feeds : List (Feed I)) (number : ℕ)
+    ensures { (site : BoardView) (plan : PlanView) (units : List N) (feeds : List (Feed I)) (first number : ℕ)
         → IsNewSender site plan number room.role
-        → IsNewRole I.name I.left I.takes N.acts N.state site plan units feeds number result }
+        → IsNewRole I.name I.left I.takes N.acts N.state site plan units feeds first number result }
 {
     Role::Send(room.start())
 }
@@ -44,22 +44,22 @@ fn sender<I: Source + Drop, N: NetFunction>(room: TxRoom) -> Role<I, N>
 // The role of a core with these units.
 fn handler<I: Source + Drop, N: NetFunction>(room: CoreRoom, own: Vec<N>) -> Role<I, N>
     requires units { length own.items ≡ length room.stations.items }
-    ensures { (site : BoardView) (plan : PlanView) (units : List N) (feeds : List (Feed I)) (core : ℕ)
+    ensures { (site : BoardView) (plan : PlanView) (units : List N) (feeds : List (Feed I)) (first core : ℕ)
         → IsLayoutOf plan site.layout → IsNewCoreRoom site plan core room
         → length units ≡ length plan.functions → own.items ≡ units_of core plan.functions units
-        → IsNewRole I.name I.left I.takes N.acts N.state site plan units feeds
+        → IsNewRole I.name I.left I.takes N.acts N.state site plan units feeds first
         (plan.ports + plan.transmit + core) result }
 {
     Role::Handle(room.start(ListOf::from_vec(own)))
 }
 
-fn ticker<I: Source + Drop, N: NetFunction>(room: TickRoom) -> Role<I, N>
+fn ticker<I: Source + Drop, N: NetFunction>(room: TickRoom, first: u64) -> Role<I, N>
     ensures { (site : BoardView) (plan : PlanView) (units : List N) (feeds : List (Feed I))
         → IsLayoutOf plan site.layout → IsNewTickRoom plan room
-        → IsNewRole I.name I.left I.takes N.acts N.state site plan units feeds
+        → IsNewRole I.name I.left I.takes N.acts N.state site plan units feeds first
         (plan.ports + plan.transmit + plan.cores) result }
 {
-    Role::Tick(room.start(0))
+    Role::Tick(room.start(first))
 }
 
 /// The receive roles, by port, each with its feed. A port behind the last feed has none.
@@ -72,9 +72,9 @@ pub fn add_receivers<I: Source + Drop, N: NetFunction>(
     requires room { vec_len roles.old + vec_len rooms ≤ vec_capacity roles.old }
     requires intakes { AreIntakes rooms.items }
     requires fresh { AreFresh feeds }
-    ensures new { (site : BoardView) (plan : PlanView) (units : List N)
+    ensures new { (site : BoardView) (plan : PlanView) (units : List N) (first : ℕ)
         → IsLayoutOf plan site.layout → AreReceivers site plan plan.ports rooms.items
-        → AreNewUpTo I.name I.left I.takes N.acts N.state site plan units feeds plan.ports roles.new.items }
+        → AreNewUpTo I.name I.left I.takes N.acts N.state site plan units feeds first plan.ports roles.new.items }
     ensures room { vec_capacity roles.new ≡ vec_capacity roles.old }
     ensures many { vec_len roles.new ≡ vec_len roles.old + vec_len rooms }
 {
@@ -90,10 +90,10 @@ pub fn add_senders<I: Source + Drop, N: NetFunction>(
     rooms: Vec<TxRoom>,
 )
     requires room { vec_len roles.old + vec_len rooms ≤ vec_capacity roles.old }
-    ensures new { (site : BoardView) (plan : PlanView) (units : List N) (feeds : List (Feed I))
+    ensures new { (site : BoardView) (plan : PlanView) (units : List N) (feeds : List (Feed I)) (first : ℕ)
         → AreSenders site plan plan.transmit rooms.items
-        → AreNewUpTo I.name I.left I.takes N.acts N.state site plan units feeds plan.ports roles.old.items
-        → AreNewUpTo I.name I.left I.takes N.acts N.state site plan units feeds (plan.ports + plan.transmit)
+        → AreNewUpTo I.name I.left I.takes N.acts N.state site plan units feeds first plan.ports roles.old.items
+        → AreNewUpTo I.name I.left I.takes N.acts N.state site plan units feeds first (plan.ports + plan.transmit)
         roles.new.items }
     ensures room { vec_capacity roles.new ≡ vec_capacity roles.old }
     ensures many { vec_len roles.new ≡ vec_len roles.old + vec_len rooms }
@@ -111,12 +111,12 @@ pub fn add_cores<I: Source + Drop, N: NetFunction>(
 )
     requires room { vec_len roles.old + vec_len rooms ≤ vec_capacity roles.old }
     requires lists { FitStations rooms.items lists.items }
-    ensures new { (site : BoardView) (plan : PlanView) (units : List N) (feeds : List (Feed I))
+    ensures new { (site : BoardView) (plan : PlanView) (units : List N) (feeds : List (Feed I)) (first : ℕ)
         → IsLayoutOf plan site.layout → AreCores site plan plan.cores rooms.items
         → length units ≡ length plan.functions → AreUnitsOf plan units lists.items
-        → AreNewUpTo I.name I.left I.takes N.acts N.state site plan units feeds (plan.ports + plan.transmit)
+        → AreNewUpTo I.name I.left I.takes N.acts N.state site plan units feeds first (plan.ports + plan.transmit)
         roles.old.items
-        → AreNewUpTo I.name I.left I.takes N.acts N.state site plan units feeds
+        → AreNewUpTo I.name I.left I.takes N.acts N.state site plan units feeds first
         (plan.ports + plan.transmit + plan.cores) roles.new.items }
     ensures room { vec_capacity roles.new ≡ vec_capacity roles.old }
     ensures many { vec_len roles.new ≡ vec_len roles.old + vec_len rooms }
@@ -126,15 +126,19 @@ pub fn add_cores<I: Source + Drop, N: NetFunction>(
     }
 }
 
-/// The tick role, behind the cores.
-pub fn add_ticker<I: Source + Drop, N: NetFunction>(roles: &mut Vec<Role<I, N>>, room: TickRoom)
+/// The tick role, behind the cores. Its first tick is due one `tick` of the plan after this moment.
+pub fn add_ticker<I: Source + Drop, N: NetFunction>(
+    roles: &mut Vec<Role<I, N>>,
+    room: TickRoom,
+    first: u64,
+)
     requires room { vec_len roles.old + 1 ≤ vec_capacity roles.old }
     ensures { (site : BoardView) (plan : PlanView) (units : List N) (feeds : List (Feed I))
         → IsLayoutOf plan site.layout → IsNewTickRoom plan room
-        → AreNewUpTo I.name I.left I.takes N.acts N.state site plan units feeds
+        → AreNewUpTo I.name I.left I.takes N.acts N.state site plan units feeds first
         (plan.ports + plan.transmit + plan.cores) roles.old.items
-        → AreNewUpTo I.name I.left I.takes N.acts N.state site plan units feeds
+        → AreNewUpTo I.name I.left I.takes N.acts N.state site plan units feeds first
         (plan.ports + plan.transmit + plan.cores + 1) roles.new.items }
 {
-    roles.push_reserved(ticker(room));
+    roles.push_reserved(ticker(room, first));
 }

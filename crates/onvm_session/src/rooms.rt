@@ -154,25 +154,31 @@ impl<I: Source + Drop, N: NetFunction> Beginning<I, N> {
         })
     }
 
-    /// The session, of which no turn was made. It takes no memory.
-    pub fn start(self, plan: &Plan, units: ListOf<N>, feeds: ListOf<Feed<I>>) -> Manager<I, N>
+    /// The session, of which no turn was made. It begins at the moment `first`, and takes no memory.
+    pub fn start(
+        self,
+        plan: &Plan,
+        units: ListOf<N>,
+        feeds: ListOf<Feed<I>>,
+        first: u64,
+    ) -> Manager<I, N>
         requires beginning { IsBeginning plan.now self }
         requires units { length units ≡ length plan.now.functions }
         requires feeds { length feeds ≤ plan.now.ports }
         requires fresh { AreFresh feeds }
-        ensures { IsNewManager I.name I.left I.takes N.acts N.state plan.now units feeds result }
+        ensures { IsNewManager I.name I.left I.takes N.acts N.state plan.now units feeds first result }
     {
         let Beginning {
             board,
-            first,
+            first: token,
             registry,
             layout,
             rooms,
         } = self;
-        let (roles, feeds) = rooms.start(plan, units, feeds);
+        let (roles, feeds) = rooms.start(plan, units, feeds, first);
         Manager {
             board,
-            first,
+            first: token,
             registry,
             layout,
             roles,
@@ -223,13 +229,14 @@ impl<I: Source + Drop, N: NetFunction> Rooms<I, N> {
         plan: &Plan,
         units: ListOf<N>,
         feeds: ListOf<Feed<I>>,
+        first: u64,
     ) -> (Vec<Role<I, N>>, Vec<Feed<I>>)
         requires rooms { AreOnBoard plan.now self }
         requires units { length units ≡ length plan.now.functions }
         requires fresh { AreFresh feeds }
         ensures roles { (site : BoardView) → IsLayoutOf plan.now site.layout → IsLayout site.layout
             → AreRooms site plan.now self
-            → AreNewRoles I.name I.left I.takes N.acts N.state site plan.now units feeds result.0.items }
+            → AreNewRoles I.name I.left I.takes N.acts N.state site plan.now units feeds first result.0.items }
         ensures feeds { result.1 ≡ self.feeds }
     {
         let Rooms {
@@ -245,7 +252,7 @@ impl<I: Source + Drop, N: NetFunction> Rooms<I, N> {
         add_senders(&mut roles, senders);
         hand_out(&mut lists, plan, units);
         add_cores(&mut roles, cores, lists);
-        add_ticker(&mut roles, ticker);
+        add_ticker(&mut roles, ticker, first);
         (roles, returned)
     }
 }

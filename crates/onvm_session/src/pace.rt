@@ -1,0 +1,220 @@
+//! How roles keep pace with each other in a phase, outside the board.
+//!
+//! Whatever the pace, what roles do is right, and no contract speaks of it. But roles that only race
+//! each other lose most frames: a core that finds no frame uses up its passes while a receive role
+//! reads, and a receive role that nobody follows fills the rings. So no more frames are on their way
+//! than lanes and pools have room for, and a role makes no pass where nothing came since its last one.
+//!
+//! Each wait is bounded: a role that waited for long goes on.
+
+use crate::role::Role;
+use onvm_base::Plan;
+use onvm_promises::Pass;
+use std::hint::spin_loop;
+use std::sync::atomic::{AtomicBool, AtomicU64, Ordering};
+use std::thread;
+use std::time;
+use std::time::Duration;
+
+// A role that has nothing to do looks so often in a row for something, then lets others run so often
+// between its looks, and sleeps between further ones.
+const SPINS: u32 = 64;
+const YIELDS: u32 = 64;
+const SLEEPS: u32 = 20_000;
+
+// The tick role lets others run so often before it looks: a mail ring holds 64 samples.
+const TICK_SPINS: u32 = SPINS + 4;
+
+// How long a role sleeps between two looks, in microseconds.
+const NAP: u64 = 20;
+
+/// What roles tell each other of how far they are.
+#[derive(Drop)]
+pub struct Pace {
+    // As many frames may be on their way.
+    window: u64,
+    burst: u64,
+    ports: u64,
+    // The phase's number, from 1.
+    phase: u64,
+    // The frames that were pulled and have no record, and those that receive roles are about to pull.
+    under_way: AtomicU64,
+    // How many receive roles have pulled all their frames.
+    ended: AtomicU64,
+    over: AtomicBool,
+    // How many passes of receive and transmit roles, and of cores, moved frames.
+    fed: AtomicU64,
+    handled: AtomicU64,
+}
+
+/// What a role knew before its last pass of this phase.
+#[derive(Drop)]
+pub struct Stride {
+    pulled: u64,
+    recorded: u64,
+    // So many frames it may pull.
+    reserved: u64,
+    // How many passes that may have brought it something there were.
+    seen: u64,
+    // Its last pass did something, so there may be more to do.
+    busy: bool,
+    ended: bool,
+}
+
+impl Pace {
+    /// No frame is on its way.
+    pub fn make(plan: &Plan) -> Pace {
+        let burst = u64::from(plan.burst);
+        let lanes = u64::from(plan.high).saturating_sub(1);
+        Pace {
+            window: lanes.min(u64::from(plan.buffers)).max(burst),
+            burst,
+            ports: u64::from(plan.ports),
+            phase: 0,
+            under_way: AtomicU64::new(0),
+            ended: AtomicU64::new(0),
+            over: AtomicBool::new(false),
+            fed: AtomicU64::new(0),
+            handled: AtomicU64::new(0),
+        }
+    }
+
+    /// Another phase begins.
+    pub fn begin_phase(&mut self) {
+        self.phase = self.phase.saturating_add(1);
+        self.ended.store(0, Ordering::SeqCst);
+        self.over.store(false, Ordering::SeqCst);
+    }
+
+    /// No role begins another pass of this phase.
+    pub fn end_phase(&self) {
+        self.over.store(true, Ordering::SeqCst);
+    }
+
+    /// The number of the pass with this number in its phase. Each phase begins with another multiple
+    /// of 1,024.
+    pub fn pass_number(&self, number: u32) -> u64 {
+        self.phase
+            .saturating_sub(1)
+            .saturating_mul(1024)
+            .saturating_add(u64::from(number))
+    }
+
+    /// Of a role that has made no pass in this phase.
+    pub fn stride_of<I, N>(&self, role: &Role<I, N>) -> Stride {
+        let ended = match role {
+            Role::Receive(role) => role.done(),
+            Role::Send(_) | Role::Handle(_) | Role::Tick(_) => false,
+        };
+        if ended {
+            self.ended.fetch_add(1, Ordering::SeqCst);
+        }
+        Stride {
+            pulled: u64::from(role.pulled()),
+            recorded: role.recorded(),
+            reserved: 0,
+            seen: 0,
+            busy: true,
+            ended,
+        }
+    }
+
+    /// Waits until the role's next pass may find something to do. Says whether the phase goes on.
+    pub fn admits<T: time::Clock, I, N>(
+        &self,
+        rt: &T,
+        role: &Role<I, N>,
+        stride: &mut Stride,
+    ) -> bool {
+        for turn in 0..SPINS + YIELDS + SLEEPS {
+            if self.is_over() {
+                return false;
+            }
+            if self.has_work(role, stride, turn) {
+                return true;
+            }
+            rest(rt, turn);
+        }
+        true
+    }
+
+    // No frame is on its way and none will come, or a role has ended the phase.
+    fn is_over(&self) -> bool {
+        self.over.load(Ordering::SeqCst)
+            || (self.ended.load(Ordering::SeqCst) == self.ports
+                && self.under_way.load(Ordering::SeqCst) == 0)
+    }
+
+    // Whether the next pass may find something to do. A receive role may pull a burst then.
+    fn has_work<I, N>(&self, role: &Role<I, N>, stride: &mut Stride, turn: u32) -> bool {
+        let came = match role {
+            Role::Receive(_) if !stride.ended => return self.reserve(stride),
+            Role::Handle(_) => self.fed.load(Ordering::SeqCst),
+            Role::Tick(_) if turn < TICK_SPINS => stride.seen,
+            Role::Receive(_) | Role::Send(_) | Role::Tick(_) => self.handled.load(Ordering::SeqCst),
+        };
+        let has_work = stride.busy || came != stride.seen;
+        stride.seen = came;
+        has_work
+    }
+
+    // Whether there is room for a burst.
+    fn reserve(&self, stride: &mut Stride) -> bool {
+        let now = self.under_way.load(Ordering::SeqCst);
+        let then = now.saturating_add(self.burst);
+        if then > self.window {
+            return false;
+        }
+        let reserved = self
+            .under_way
+            .compare_exchange(now, then, Ordering::SeqCst, Ordering::SeqCst)
+            .is_ok();
+        if reserved {
+            stride.reserved = self.burst;
+        }
+        reserved
+    }
+
+    /// What the role's pass did, which answered this.
+    pub fn note<I, N>(&self, role: &Role<I, N>, answer: Pass, stride: &mut Stride) {
+        let pulled = u64::from(role.pulled());
+        let recorded = role.recorded();
+        self.under_way
+            .fetch_add(pulled.saturating_sub(stride.pulled), Ordering::SeqCst);
+        let gone = recorded.saturating_sub(stride.recorded);
+        self.under_way
+            .fetch_sub(gone.saturating_add(stride.reserved), Ordering::SeqCst);
+        stride.pulled = pulled;
+        stride.recorded = recorded;
+        stride.reserved = 0;
+        let did = matches!(answer, Pass::Did(_));
+        match role {
+            Role::Receive(_) | Role::Send(_) if did => {
+                self.fed.fetch_add(1, Ordering::SeqCst);
+            }
+            Role::Handle(_) if did => {
+                self.handled.fetch_add(1, Ordering::SeqCst);
+            }
+            _ => {}
+        }
+        if let Role::Receive(role) = role
+            && !stride.ended
+            && role.done()
+        {
+            stride.ended = true;
+            self.ended.fetch_add(1, Ordering::SeqCst);
+        }
+        stride.busy = did;
+    }
+}
+
+// Lets others go on between two looks.
+fn rest<T: time::Clock>(rt: &T, turn: u32) {
+    if turn < SPINS {
+        spin_loop();
+    } else if turn < SPINS + YIELDS {
+        thread::yield_now();
+    } else {
+        thread::sleep(rt, Duration::from_micros(NAP));
+    }
+}
