@@ -23,9 +23,6 @@ const YIELDS: u32 = 4096;
 
 const SLEEPS: u32 = 20_000;
 
-// The tick role lets others run so often before it looks: a mail ring holds 64 samples.
-const TICK_LOOK: u32 = SPINS + 4;
-
 // How long a role sleeps between two looks, in microseconds.
 const NAP: u64 = 50;
 
@@ -132,10 +129,10 @@ impl Pace {
             if self.is_over() {
                 return false;
             }
-            if self.has_work(role, stride, turn) {
+            if self.has_work(role, stride) {
                 return true;
             }
-            rest(rt, turn);
+            rest(rt, role, turn);
         }
         true
     }
@@ -148,11 +145,10 @@ impl Pace {
     }
 
     // Whether the next pass may find something to do. A receive role may pull a burst then.
-    fn has_work<I, N>(&self, role: &Role<I, N>, stride: &mut Stride, turn: u32) -> bool {
+    fn has_work<I, N>(&self, role: &Role<I, N>, stride: &mut Stride) -> bool {
         let came = match role {
             Role::Receive(_) if !stride.ended => return self.reserve(stride),
             Role::Handle(_) => self.fed.load(Ordering::SeqCst),
-            Role::Tick(_) if turn < TICK_LOOK => stride.seen,
             Role::Receive(_) | Role::Send(_) | Role::Tick(_) => self.handled.load(Ordering::SeqCst),
         };
         let has_work = stride.busy || came != stride.seen;
@@ -213,13 +209,14 @@ impl Pace {
     }
 }
 
-// Lets others go on between two looks.
-fn rest<T: time::Clock>(rt: &T, turn: u32) {
-    if turn < SPINS {
-        spin_loop();
-    } else if turn < SPINS + YIELDS {
-        thread::yield_now();
-    } else {
-        thread::sleep(rt, Duration::from_micros(NAP));
+// Lets others go on between two looks. The tick role always sleeps: nobody waits for it, and a mail ring
+// holds 64 samples.
+fn rest<T: time::Clock, I, N>(rt: &T, role: &Role<I, N>, turn: u32) {
+    match role {
+        Role::Receive(_) | Role::Send(_) | Role::Handle(_) if turn < SPINS => spin_loop(),
+        Role::Receive(_) | Role::Send(_) | Role::Handle(_) if turn < SPINS + YIELDS => {
+            thread::yield_now();
+        }
+        _ => thread::sleep(rt, Duration::from_micros(NAP)),
     }
 }
