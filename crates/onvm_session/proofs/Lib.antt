@@ -41,6 +41,7 @@ pub mod OverloadTick
 pub mod OwnRuns
 pub mod Passing
 pub mod Peeling
+pub mod PhaseTokens
 pub mod Phasing
 pub mod Places
 pub mod PortEnds
