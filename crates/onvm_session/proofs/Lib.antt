@@ -41,6 +41,8 @@ pub mod OverloadTick
 pub mod OwnRuns
 pub mod Passing
 pub mod Peeling
+pub mod PhaseSeats
+pub mod PhaseTokens
 pub mod Phasing
 pub mod Places
 pub mod PortEnds
