@@ -1,5 +1,5 @@
 -- Roles take seats, one after the other from the last role on, and leave them from role 0 on.
-use Rattle.std.proofs.Common.{◌≡◌, ◌≢◌, ℕ, zero, suc, ◌+◌, ◌<◌, ◌≤◌, true, List, [], ◌∷◌, ◌++◌, length, refl, sym, ◌∙◌, ap, subst, arith, append-nil, append_assoc, get_or-set_same, get_or-set_other, Some}
+use Rattle.std.proofs.Common.{◌≡◌, ◌≢◌, ℕ, zero, suc, ◌+◌, ◌<◌, ◌≤◌, true, false, List, [], ◌∷◌, ◌++◌, length, refl, sym, ◌∙◌, ap, subst, arith, append-nil, append_assoc, get_or-set_same, get_or-set_other, Some}
 use Rattle.std.specs.Prelude.{◌-◌, ◌==◌, slice_get, slice_index_or, slice_set}
 use Rattle.std.proofs.lemmas.Bool.{ne_eqb}
 use Rattle.std.proofs.lemmas.List.{length-append, length-set, length_push}
@@ -53,7 +53,7 @@ each_seat_more holds seat seats own each (suc at) other found =
     subst (λ (r : ℕ). holds r other) number (each at other found)
 
 -- of the seat with these before and behind it
-pub seat_here : {I N : Type 0} (holds : ℕ → Seat I N → Type 0) (seats left gone : List (Seat I N)) (seat : Seat I N)
+seat_here : {I N : Type 0} (holds : ℕ → Seat I N → Type 0) (seats left gone : List (Seat I N)) (seat : Seat I N)
     → seats ≡ left ++ seat ∷ gone → OfEachSeat holds seats → holds (length gone) seat
 seat_here holds seats left gone seat parts each =
     let many : length seats ≡ length left + length (seat ∷ gone) = ap length parts ∙ length-append left (seat ∷ gone) in
@@ -217,6 +217,21 @@ leaving_next {I} {N} seats left now roles after seat leaving last pushed = recor
   });
 }
 
+-- the last seat of those that are left: its role comes behind the roles
+pub taken_seat : {I N : Type 0} (holds : ℕ → Seat I N → Type 0) (seats left now : List (Seat I N))
+    (roles : List (Role I N)) (seat : Seat I N)
+    → AreLeaving seats left roles → left ≡ now ++ seat ∷ [] → OfEachSeat holds seats → holds (length roles) seat
+taken_seat holds seats left now roles seat leaving last each =
+    subst (λ (r : ℕ). holds r seat) (sym leaving.roles_are.many)
+    (seat_here holds seats now leaving.gone seat (parts_next seats left now leaving.gone seat leaving.parts last) each)
+
+pub taken_below : {I N : Type 0} (seats left now : List (Seat I N)) (roles : List (Role I N)) (seat : Seat I N)
+    → AreLeaving seats left roles → left ≡ now ++ seat ∷ [] → length roles < length seats
+taken_below seats left now roles seat leaving last =
+    let parts = parts_next seats left now leaving.gone seat leaving.parts last in
+    let many = ap length parts ∙ length-append now (seat ∷ leaving.gone) in
+    omega (arith, many, leaving.roles_are.many)
+
 -- where no seat is left, the roles are those of all seats
 none_gone : {I N : Type 0} (seats left gone : List (Seat I N)) → seats ≡ left ++ gone → length left ≡ 0 → gone ≡ seats
 none_gone seats [] gone parts none = sym parts
@@ -290,6 +305,7 @@ pub record AreJoining {I N : Type 0} (seats left : List (Seat I N)) (roles : Lis
 
 pub joining_begins : {I N : Type 0} (seats : List (Seat I N)) (roles : List (Role I N)) (old : TokenView) → roles ≡ []
     → AreJoining seats seats roles old old
+unfolding leaving_begins
 joining_begins {I} {N} seats roles old none =
     record { leaving = leaving_begins seats roles none; joined = joins_begin {I = I} {N = N} old }
 
