@@ -1,6 +1,6 @@
 -- A run put together from its parts: up to where it was done, and up to where it was stopped.
 use Rattle.std.proofs.Common.{◌≡◌, ◌≤◌, ◌∙◌, sym, ap, subst, refl, inl, inr, ℕ, Bool, List, [], ◌++◌, length, Option, None, Result, Ok, Err, append_assoc}
-use Rattle.std.specs.Prelude.{IfNone, OnErr, OnOk}
+use Rattle.std.specs.Prelude.{IfNone, IfOk, OnErr, OnOk}
 use Rattle.std.specs.Io.KnownBytes.{Appends}
 use Rattle.std.proofs.lemmas.List.{append-nil}
 use Rattle.onvm_base.specs.declared.plan.Plan.{Plan}
@@ -146,6 +146,15 @@ module _ {V : Type 0} {F : V → Type 0} (may_tell : ℕ → Type 0) (cost_may_t
               left = subst Says unsaid (subst Of same left.2);
             },
       )
+
+  -- a run that is done for whichever words are its command is done for these
+  pub Adds-words : (told told_now : Option Entries) (said said_now : Option (List ℕ)) (before now : List Deed)
+      (command : Command) (words : List (List ℕ)) (result : Result Run Fault) → IsCommand words command
+      → IfOk result (λ run. Adds before now (Done told told_now said said_now command run))
+      → IfOk result (λ run. Adds before now (λ deeds.
+      IsDone may_tell cost_may_take guest_acts guest_state words guests told told_now said said_now deeds run))
+  Adds-words told told_now said said_now before now command words (Ok run) is done = (done.0, done.1, done.2 words is)
+  Adds-words told told_now said said_now before now command words (Err fault) is done = tt
 
   -- Where it was stopped
 

@@ -10,7 +10,7 @@ use Rattle.onvm_top.specs.declared.fault.Fault.{Fault}
 use Rattle.onvm_top.proofs.replay.replay_captures.Goals as goal
 
 pub session-outcome-requires-clause-fresh : goal.session-outcome-requires-clause-fresh
-session-outcome-requires-clause-fresh g c =
+session-outcome-requires-clause-fresh g c κs within =
     let source = g.H.Input.Source in
     fresh_feeds source.name source.left source.takes (g.H.Host.files c.args.host.now) c.args.captures.now
     c.in_ok-feeds.feeds c.in_ok-feeds.ensures.feeds c.requires.captures
