@@ -7,14 +7,14 @@ use Rattle.onvm_core.proofs.Lists.{if_unmet}
 use Rattle.onvm_core.specs.declared.step.Act.TheVariants.{Join, Split}
 use Rattle.onvm_core.specs.Logs.{Log}
 use Rattle.onvm_board.specs.Known.{is_split_in}
-use Rattle.onvm_board.specs.Tokens.{TokenView, kept_log, split_token, token_after, token_after_join}
+use Rattle.onvm_board.specs.Tokens.{BoardView, IsRoleOf, TokenView, kept_log, split_token, token_after, token_after_join}
 use Rattle.onvm_promises.specs.Answers.{is_complete}
 use Rattle.onvm_session.proofs.Growing.{got_below, some_inj}
 use Rattle.onvm_session.specs.declared.manager.Manager.{Manager}
 use Rattle.onvm_session.specs.declared.role.Role.{Role}
 use Rattle.onvm_session.specs.declared.seat.Seat.{Seat}
 use Rattle.onvm_session.specs.Boards.{token_after_splits}
-use Rattle.onvm_session.specs.Seats.{AreRolesOf, AreSeated, AreTokensJoined, IsSeated, OfEachSeat}
+use Rattle.onvm_session.specs.Seats.{AreJoinable, AreRolesOf, AreSeated, AreTokensJoined, IsSeated, OfEachSeat}
 use Rattle.onvm_session.specs.Sessions.{lengths_of}
 use Rattle.onvm_session.specs.Views.{joins, splits}
 
@@ -217,20 +217,17 @@ leaving_next {I} {N} seats left now roles after seat leaving last pushed = recor
   });
 }
 
--- the last seat of those that are left: its role comes behind the roles
-pub taken_seat : {I N : Type 0} (holds : ℕ → Seat I N → Type 0) (seats left now : List (Seat I N))
-    (roles : List (Role I N)) (seat : Seat I N)
-    → AreLeaving seats left roles → left ≡ now ++ seat ∷ [] → OfEachSeat holds seats → holds (length roles) seat
-taken_seat holds seats left now roles seat leaving last each =
-    subst (λ (r : ℕ). holds r seat) (sym leaving.roles_are.many)
-    (seat_here holds seats now leaving.gone seat (parts_next seats left now leaving.gone seat leaving.parts last) each)
-
-pub taken_below : {I N : Type 0} (seats left now : List (Seat I N)) (roles : List (Role I N)) (seat : Seat I N)
-    → AreLeaving seats left roles → left ≡ now ++ seat ∷ [] → length roles < length seats
-taken_below seats left now roles seat leaving last =
-    let parts = parts_next seats left now leaving.gone seat leaving.parts last in
-    let many = ap length parts ∙ length-append now (seat ∷ leaving.gone) in
-    omega (arith, many, leaving.roles_are.many)
+-- the token of the last seat that is left can be joined
+pub last_joinable : {I N : Type 0} (site : BoardView) (seats left now : List (Seat I N)) (roles : List (Role I N))
+    (seat : Seat I N) → AreJoinable site seats → AreLeaving seats left roles → left ≡ now ++ seat ∷ []
+    → IsRoleOf site seat.token × (seat.token.hand ≡ [])
+last_joinable site seats left now roles seat joinable leaving last =
+    let gone = leaving.gone in
+    let parts = parts_next seats left now gone seat leaving.parts last in
+    let many = ap length parts ∙ length-append now (seat ∷ gone) in
+    let is = seat_here (λ r other. (other.token.board ≡ site.id) × (other.token.role ≡ r) × (other.token.hand ≡ [])) seats
+    now gone seat parts joinable.each in
+    (record { board = is.0; below = omega (arith, many, is.1, joinable.many) }, is.2)
 
 -- where no seat is left, the roles are those of all seats
 none_gone : {I N : Type 0} (seats left gone : List (Seat I N)) → seats ≡ left ++ gone → length left ≡ 0 → gone ≡ seats

@@ -1,6 +1,6 @@
 use Rattle.std.proofs.Common.{◌∙◌, ap, refl, sym, subst, arith, length}
 use Rattle.onvm_board.specs.Tokens.{BoardView, IsRoleOf}
-use Rattle.onvm_session.proofs.PhaseSeats.{all_joined, all_left, joining_begins, joining_next, taken_below, taken_seat}
+use Rattle.onvm_session.proofs.PhaseSeats.{all_joined, all_left, joining_begins, joining_next, last_joinable}
 use Rattle.onvm_session.proofs.manager.Manager.join_all.Goals as goal
 
 pub loop-init : goal.loop-init
@@ -18,19 +18,16 @@ loop-init g c = record {
 
 pub join-requires-clause-role : goal.join-requires-clause-role
 join-requires-clause-role g c =
-    let leaving = c.loop.invariant.joining.leaving in
-    let is = taken_seat _ c.args.seats.now.items c.loop.seats.items c.take_last-role.new.self.items
-    c.loop.self.roles.items c.take_last-role.result leaving c.take_last-role.ensures.items c.requires.joinable.each in
-    let less = taken_below c.args.seats.now.items c.loop.seats.items c.take_last-role.new.self.items
-    c.loop.self.roles.items c.take_last-role.result leaving c.take_last-role.ensures.items in
     subst (λ (b : BoardView). IsRoleOf b c.take_last-role.result.token) (sym c.loop.invariant.board)
-    (record { board = is.0; below = omega (arith, less, is.1, c.requires.joinable.many) })
+    (last_joinable c.args.self.now.board c.args.seats.now.items c.loop.seats.items c.take_last-role.new.self.items
+    c.loop.self.roles.items c.take_last-role.result c.requires.joinable c.loop.invariant.joining.leaving
+    c.take_last-role.ensures.items).0
 
 pub join-requires-clause-empty_handed : goal.join-requires-clause-empty_handed
 join-requires-clause-empty_handed g c =
-    (taken_seat _ c.args.seats.now.items c.loop.seats.items c.take_last-role.new.self.items
-    c.loop.self.roles.items c.take_last-role.result c.loop.invariant.joining.leaving c.take_last-role.ensures.items
-    c.requires.joinable.each).2
+    (last_joinable c.args.self.now.board c.args.seats.now.items c.loop.seats.items c.take_last-role.new.self.items
+    c.loop.self.roles.items c.take_last-role.result c.requires.joinable c.loop.invariant.joining.leaving
+    c.take_last-role.ensures.items).1
 
 pub loop-preserved : goal.loop-preserved
 loop-preserved g c =
