@@ -52,6 +52,7 @@ pub mod Reading
 pub mod RoleLists
 pub mod RolePasses
 pub mod Rounds
+pub mod SeatPasses
 pub mod Seating
 pub mod Serial
 pub mod SerialTicking
