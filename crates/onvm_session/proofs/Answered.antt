@@ -1,12 +1,12 @@
 -- What a session answers that is over, or that a fault stopped.
-use Rattle.std.proofs.Common.{◌≡◌, ℕ, ◌<◌, ◌≤◌, true, inl, inr, List, [], ◌++◌, length, refl, sym, ◌∙◌, ap, subst, arith, append-nil, Some, None, Option}
+use Rattle.std.proofs.Common.{◌≡◌, ℕ, ◌-◌, ◌<◌, ◌≤◌, Bool, true, false, inl, inr, List, [], ◌++◌, length, refl, sym, ◌∙◌, ap, subst, arith, append-nil, Some, None, Option}
 use Rattle.std.specs.Prelude.{Err, IfErr, IfOk, Ok, Result, nat_lt, slice_get}
 use Rattle.std.proofs.lemmas.Bool.{cases_Bool, ltb-false, ltb-true}
 use Rattle.onvm_base.specs.declared.limits.TheConstants.{MAX_PORT_FRAMES}
 use Rattle.onvm_base.specs.declared.plan.Plan.{Plan}
+use Rattle.onvm_core.specs.declared.layout.Layout.{Layout}
 use Rattle.onvm_core.specs.Layouts.{IsLayoutOf}
 use Rattle.onvm_core.specs.Logs.{Setting, entries_of_port}
-use Rattle.onvm_core.specs.Settings.{frame_count}
 use Rattle.onvm_host.specs.Deeds.{Amounts}
 use Rattle.nf_api.specs.Acts.{Acts}
 use Rattle.nf_api.specs.Tree.{Tree}
@@ -23,18 +23,24 @@ use Rattle.onvm_session.specs.declared.role.Role.{Role}
 use Rattle.onvm_session.specs.declared.role.Role.TheVariants.{Receive, Send, Handle, Tick}
 use Rattle.onvm_session.specs.declared.run.Run.{Run}
 use Rattle.onvm_session.specs.declared.run.Stop.{Stop}
-use Rattle.onvm_session.proofs.Beginnings.{new_underway}
+use Rattle.onvm_session.proofs.AnySpans.{any_spans}
+use Rattle.onvm_session.proofs.Beginnings.{new_underway, new_underway_at}
 use Rattle.onvm_session.proofs.Counting.{frames_counted}
+use Rattle.onvm_session.proofs.Finishing.{run_accounted, run_counted}
 use Rattle.onvm_session.proofs.Growing.{all_earlier, got_none, got_some}
 use Rattle.onvm_session.proofs.HandingBack.{receives_below}
 use Rattle.onvm_session.proofs.OwnRuns.{own_run, own_run_is}
 use Rattle.onvm_session.proofs.Tending.{IsTended, back_again, one_layout, stands_at}
-use Rattle.onvm_session.specs.Accounts.{IsAccounted}
+use Rattle.onvm_session.specs.Boards.{view_of_token}
+use Rattle.onvm_session.specs.Closings.{IsClosedRun}
+use Rattle.onvm_session.specs.Endings.{IsClosingMoment}
 use Rattle.onvm_session.specs.Leaving.{feeds_of}
-use Rattle.onvm_session.specs.Managers.{AllGrow, FitsAll, GoesOn, HasFault, IsOver, IsUnderway}
+use Rattle.onvm_session.specs.Managers.{AllGrow, FitsAll, GoesOn, GoesOnTo, HasFault, IsManager, IsOver, IsUnderway, place_now, round_now}
+use Rattle.onvm_session.specs.Moments.{moment_of_round, round_of_turn}
 use Rattle.onvm_session.specs.RoleStates.{FitsOne, acts_by, fault_of, standing_of, start_by}
 use Rattle.onvm_session.specs.Rooms.{IsNewManager}
-use Rattle.onvm_session.specs.Runs.{AllStand, AreHandedBack, HasStopped, IsDone, IsStop, StandsWith, any_moment, told_fault, view_of_run}
+use Rattle.onvm_session.specs.Runs.{AllStand, AreHandedBack, HasStopped, IsDone, IsStop, StandsWith, any_moment, any_span, taken_by, told_by, told_fault}
+use Rattle.onvm_session.specs.Views.{place_in, turns_in}
 
 -- where a port stands
 abbrev pub standing_at : {I N : Type 0} → Option (Role I N) → Standing
@@ -51,6 +57,13 @@ few_pulled (Some (Live source)) standing is = is.within.few
 few_pulled (Some (Made g)) standing is =
     let made = ap (λ (s : Standing). length s.pulled) is.0 in
     omega (arith, made, length-made_frames g.seed g.given, is.2, is.3)
+
+-- a session of either kind between turns, which may be closed at this moment
+record IsAtEnd {I N : Type 0} (acts : N → Acts) (state : N → Tree) (serial : Bool) (may_tell : ℕ → Type 0)
+    (cost_may_take : ℕ → ℕ → Type 0) (began : ℕ) (units : List N) (now : ℕ) (setting : Setting)
+    (manager : Manager I N) : Type 0 where
+  pub underway : IsUnderway acts state serial may_tell cost_may_take began units setting manager
+  pub moment : IsClosingMoment serial may_tell setting (view_of_token manager.first) underway.latest now
 
 module _ {I N : Type 0} (name_of : I → List ℕ) (left_of : I → Option (List ℕ)) (takes_of : I → Amounts) (plan : Plan)
     (given : List (Feed I)) (manager : Manager I N) (tended : IsTended name_of left_of takes_of plan given manager)
@@ -142,19 +155,17 @@ module _ {I N : Type 0} (name_of : I → List ℕ) (left_of : I → Option (List
         );
   }
 
-  pub done : (acts : N → Acts) (state : N → Tree) (units : List N) (first : Manager I N) (run : Run)
-      → IsNewManager name_of left_of takes_of acts state plan units given first
-      → AllGrow name_of left_of takes_of first manager
-      → GoesOn acts state true any_moment is_cost plan first manager
+  pub done : (acts : N → Acts) (state : N → Tree) (serial : Bool) (may_tell : ℕ → Type 0)
+      (cost_may_take : ℕ → ℕ → Type 0) (began : ℕ) (units : List N) (now : ℕ) (run : Run)
+      → IsManager acts state any_span plan manager
       → IsOver manager
-      → ((units : List N) (setting : Setting) → FitsAll plan setting manager
-      → IsUnderway acts state true any_moment is_cost 0 units setting manager
-      → IsAccounted true any_moment is_cost (acts_by acts state units) (start_by acts state units) setting
-      (view_of_run run))
-      → ((setting : Setting) → FitsAll plan setting manager → length run.records ≡ frame_count setting)
-      → IsDone name_of left_of takes_of (acts_by acts state units) (start_by acts state units) plan given
-      (manager.feeds.items ++ feeds_of manager.roles.items) run
-  done acts state units first run new grow on over accounted counted = record {
+      → IsClosedRun plan now manager run
+      → ((setting : Setting) → FitsAll plan setting manager
+      → IsAtEnd acts state serial (told_by serial may_tell) (taken_by serial cost_may_take) began units now setting
+      manager)
+      → IsDone name_of left_of takes_of serial may_tell cost_may_take (acts_by acts state units)
+      (start_by acts state units) plan given (manager.feeds.items ++ feeds_of manager.roles.items) run
+  done acts state serial may_tell cost_may_take began units now run is_manager over closed ends = record {
     standings = standings_in manager;
     stand = λ port known.
         let at = role_at port known in
@@ -170,11 +181,12 @@ module _ {I N : Type 0} (name_of : I → List ℕ) (left_of : I → Option (List
     );
     accounted = λ setting is.
         let fits = fits_over over setting is in
-        accounted units setting fits
-        (on.on 0 units setting fits
-        (new_underway name_of left_of takes_of acts state plan units given first new setting
-        (all_earlier name_of left_of takes_of plan setting first manager grow fits)));
-    counted = λ setting is. counted setting (fits_over over setting is) ∙ frames_counted setting is.setting_is;
+        let end = ends setting fits in
+        run_accounted acts state plan now manager run is_manager over closed serial (told_by serial may_tell)
+        (taken_by serial cost_may_take) began units setting fits end.underway end.moment;
+    counted = λ setting is.
+        run_counted acts state plan now manager run is_manager over closed setting (fits_over over setting is)
+        ∙ frames_counted setting is.setting_is;
   }
 
   -- A session that a fault stopped
@@ -215,26 +227,67 @@ module _ {I N : Type 0} (name_of : I → List ℕ) (left_of : I → Option (List
       subst (λ (feeds : List (Feed I)). HasStopped name_of left_of takes_of plan given feeds port fault) (sym is)
       (stopped port fault (told port fault e))
 
-  pub all_done : (acts : N → Acts) (state : N → Tree) (units : List N) (first : Manager I N)
+  -- rounds are done
+  pub rounds_done : (acts : N → Acts) (state : N → Tree) (units : List N) (first : Manager I N) (now : ℕ)
       (outcome : Result Run Stop) (back : List (Feed I))
-      → IsNewManager name_of left_of takes_of acts state plan units given first
+      → IsNewManager name_of left_of takes_of acts state plan units given 0 first
       → AllGrow name_of left_of takes_of first manager
       → GoesOn acts state true any_moment is_cost plan first manager
+      → IsManager acts state is_cost plan manager
       → IsOver manager
+      → place_now manager ≡ 0 → 0 < round_now manager → now ≡ moment_of_round (round_now manager - 1)
       → back ≡ manager.feeds.items ++ feeds_of manager.roles.items
-      → IfOk outcome (λ run. (units : List N) (setting : Setting) → FitsAll plan setting manager
-      → IsUnderway acts state true any_moment is_cost 0 units setting manager
-      → IsAccounted true any_moment is_cost (acts_by acts state units) (start_by acts state units) setting
-      (view_of_run run))
-      → IfOk outcome (λ run. (setting : Setting) → FitsAll plan setting manager
-      → length run.records ≡ frame_count setting)
-      → IfOk outcome (λ run. IsDone name_of left_of takes_of (acts_by acts state units) (start_by acts state units) plan
-      given back run)
-  all_done acts state units first (Ok run) back new grow on over is accounted counted =
-      subst (λ (feeds : List (Feed I)). IsDone name_of left_of takes_of (acts_by acts state units)
-      (start_by acts state units) plan given feeds run) (sym is)
-      (done acts state units first run new grow on over accounted counted)
-  all_done acts state units first (Err stop) back new grow on over is accounted counted = tt
+      → IfOk outcome (λ run. IsClosedRun plan now manager run)
+      → (may_tell : ℕ → Type 0) (cost_may_take : ℕ → ℕ → Type 0)
+      → IfOk outcome (λ run. IsDone name_of left_of takes_of true may_tell cost_may_take (acts_by acts state units)
+      (start_by acts state units) plan given back run)
+  rounds_done acts state units first now (Ok run) back new grow on is_manager over place some at is closed may_tell
+      cost_may_take =
+      subst (λ (feeds : List (Feed I)). IsDone name_of left_of takes_of true may_tell cost_may_take
+      (acts_by acts state units) (start_by acts state units) plan given feeds run) (sym is)
+      (done acts state true may_tell cost_may_take 0 units now run
+      (any_spans acts state is_cost plan manager is_manager) over closed
+      (λ setting fits. record {
+        underway =
+            on.on 0 units setting fits
+            (new_underway name_of left_of takes_of acts state plan units given 0 first new refl setting
+            (all_earlier name_of left_of takes_of plan setting first manager grow fits));
+        moment =
+            subst (λ (layout : Layout).
+            (place_in layout manager.first.log ≡ 0)
+            × (0 < round_of_turn layout (turns_in (view_of_token manager.first)))
+            × (now ≡ moment_of_round (round_of_turn layout (turns_in (view_of_token manager.first)) - 1)))
+            (sym fits.layout_is) (place, some, at);
+      }))
+  rounds_done acts state units first now (Err stop) back new grow on is_manager over place some at is closed may_tell
+      cost_may_take = tt
+
+  -- phases are done
+  pub phases_done : (acts : N → Acts) (state : N → Tree) (may_tell : ℕ → Type 0) (cost_may_take : ℕ → ℕ → Type 0)
+      (units : List N) (began : ℕ) (first : Manager I N) (now : ℕ) (outcome : Result Run Stop) (back : List (Feed I))
+      → IsNewManager name_of left_of takes_of acts state plan units given began first
+      → AllGrow name_of left_of takes_of first manager
+      → GoesOnTo acts state may_tell cost_may_take plan began now first manager
+      → IsManager acts state cost_may_take plan manager
+      → IsOver manager
+      → may_tell now
+      → back ≡ manager.feeds.items ++ feeds_of manager.roles.items
+      → IfOk outcome (λ run. IsClosedRun plan now manager run)
+      → IfOk outcome (λ run. IsDone name_of left_of takes_of false may_tell cost_may_take (acts_by acts state units)
+      (start_by acts state units) plan given back run)
+  phases_done acts state may_tell cost_may_take units began first now (Ok run) back new grow on is_manager over told is
+      closed =
+      subst (λ (feeds : List (Feed I)). IsDone name_of left_of takes_of false may_tell cost_may_take
+      (acts_by acts state units) (start_by acts state units) plan given feeds run) (sym is)
+      (done acts state false may_tell cost_may_take began units now run
+      (any_spans acts state cost_may_take plan manager is_manager) over closed
+      (λ setting fits.
+      let at = on.on began units setting fits
+      (new_underway_at name_of left_of takes_of acts state plan units given began first new may_tell cost_may_take setting
+      (all_earlier name_of left_of takes_of plan setting first manager grow fits)) in
+      record { underway = at.underway; moment = (told, at.reached) }))
+  phases_done acts state may_tell cost_may_take units began first now (Err stop) back new grow on is_manager over told is
+      closed = tt
 
   pub stopped_as : (stop : Stop) (outcome : Result Run Stop) (back : List (Feed I)) → outcome ≡ Err stop
       → back ≡ manager.feeds.items ++ feeds_of manager.roles.items

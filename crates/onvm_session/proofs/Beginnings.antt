@@ -1,5 +1,5 @@
 -- A session of which no turn was made is a manager between turns, and its invariant holds.
-use Rattle.std.proofs.Common.{◌≡◌, ℕ, zero, suc, ◌<◌, true, false, inl, inr, List, [], length, replicate, refl, sym, ◌∙◌, ap, subst, arith, Some, Option}
+use Rattle.std.proofs.Common.{◌≡◌, ℕ, zero, suc, ◌<◌, Bool, true, false, inl, inr, List, [], length, replicate, refl, sym, ◌∙◌, ap, subst, arith, Some, Option}
 use Rattle.std.specs.Prelude.{nat_lt, slice_get, slice_index, slice_index_or}
 use Rattle.std.proofs.lemmas.Bool.{cases_Bool, ltb-true, ltb-false}
 use Rattle.std.proofs.lemmas.List.{length-replicate}
@@ -18,7 +18,7 @@ use Rattle.onvm_board.specs.Tokens.{BoardView, IsFirstToken, TokenView, first_to
 use Rattle.onvm_host.specs.Deeds.{Amounts}
 use Rattle.nf_api.specs.Acts.{Acts}
 use Rattle.nf_api.specs.Tree.{Tree}
-use Rattle.onvm_promises.specs.Sampling.{is_cost}
+use Rattle.onvm_promises.specs.Sampling.{AreTimed, is_cost}
 use Rattle.rx_feed.specs.declared.feed.Feed.{Feed}
 use Rattle.onvm_session.specs.declared.manager.Manager.{Manager}
 use Rattle.onvm_session.specs.declared.role.Role.{Role}
@@ -27,13 +27,13 @@ use Rattle.onvm_session.proofs.Growing.{got_none, got_some}
 use Rattle.onvm_session.proofs.Passing.{so_far_as}
 use Rattle.onvm_session.proofs.Starting.{session_starts}
 use Rattle.onvm_session.specs.Boards.{view_of_token}
-use Rattle.onvm_session.specs.Managers.{FitsAll, IsManager, IsUnderway, OfEach, keeps_at, keeps_in, state_at, states_in}
+use Rattle.onvm_session.specs.Managers.{FitsAll, IsManager, IsUnderway, IsUnderwayAt, OfEach, keeps_at, keeps_in, state_at, states_in}
 use Rattle.onvm_session.specs.Moments.{place_of_turn}
 use Rattle.onvm_session.specs.RoleStates.{IsReady, IsRoleInOrder, acts_by, keeps_of, start_by}
 use Rattle.onvm_session.specs.Rooms.{IsNewManager, IsNewRole}
 use Rattle.onvm_session.specs.Runs.{any_moment}
 use Rattle.onvm_session.specs.Sessions.{IsSession, Keeps}
-use Rattle.onvm_session.specs.Starts.{first_view, no_keeps}
+use Rattle.onvm_session.specs.Starts.{FirstMoment, first_view, no_keeps}
 use Rattle.onvm_session.specs.Views.{FinalView, place_in, turns_in}
 
 -- The first token of a new board
@@ -50,15 +50,26 @@ first_view_is board = λ i. record {
   counts = [];
 }
 
+-- a role that made no act is ready whatever spans may be
+ready_unacted : {I N : Type 0} (acts : N → Acts) (state : N → Tree) (cost_may_take : ℕ → ℕ → Type 0) (site : BoardView)
+    (plan : Plan) (token : TokenView) (role : Role I N) → token.log ≡ []
+    → IsReady acts state is_cost site plan token role → IsReady acts state cost_may_take site plan token role
+ready_unacted acts state cost_may_take site plan token (Receive rx) none ready = ready
+ready_unacted acts state cost_may_take site plan token (Send tx) none ready = ready
+ready_unacted acts state cost_may_take site plan token (Handle core) none ready =
+    (ready.0, subst (λ (log : Log). AreTimed cost_may_take plan log) (sym none) tt)
+ready_unacted acts state cost_may_take site plan token (Tick tick) none ready = ready
+
 module _ {I N : Type 0} (name_of : I → List ℕ) (left_of : I → Option (List ℕ)) (takes_of : I → Amounts)
     (acts : N → Acts) (state : N → Tree) (plan : Plan) (units : List N) (given : List (Feed I))
-    (manager : Manager I N)
-    (new : IsNewManager name_of left_of takes_of acts state plan units given manager)
+    (first : ℕ) (manager : Manager I N)
+    (new : IsNewManager name_of left_of takes_of acts state plan units given first manager)
   where
     abbrev layout : Layout
     layout = manager.board.layout
 
-    each : OfEach (IsNewRole name_of left_of takes_of acts state manager.board plan units given) manager.roles.items
+    each : OfEach (IsNewRole name_of left_of takes_of acts state manager.board plan units given first)
+        manager.roles.items
     each = new.roles.each
 
     ready_at : (token : TokenView) → token ≡ first_token manager.board → (r : ℕ) (role : Role I N)
@@ -69,8 +80,9 @@ module _ {I N : Type 0} (name_of : I → List ℕ) (left_of : I → Option (List
         ((each r role found).ready (split_token r (first_token manager.board)) refl refl
         (none_kept (first_role layout) r) refl)
 
-    pub new_manager : IsManager acts state is_cost plan manager
-    new_manager = record {
+    -- whatever spans may be told
+    pub new_manager : (cost_may_take : ℕ → ℕ → Type 0) → IsManager acts state cost_may_take plan manager
+    new_manager cost_may_take = record {
       layout_is = new.layout_is;
       layout_of = new.layout_of;
       ranges = new.ranges;
@@ -82,7 +94,9 @@ module _ {I N : Type 0} (name_of : I → List ℕ) (left_of : I → Option (List
       places =
           subst (λ (t : TokenView).
           place_of_turn layout (turns_in (view_of_token t)) ≡ place_in layout t.log) (sym new.first) refl;
-      ready = ready_at manager.first new.first;
+      ready = λ r role found.
+          ready_unacted acts state cost_may_take manager.board plan (split_token r manager.first) role
+          (ap (kept_log r) new.first ∙ none_kept (first_role layout) r) (ready_at manager.first new.first r role found);
     }
 
     log_at : (r : ℕ) → kept_log r manager.first ≡ []
@@ -178,45 +192,72 @@ module _ {I N : Type 0} (name_of : I → List ℕ) (left_of : I → Option (List
         → keeps_in manager.roles.items ≡ (λ (role : ℕ). no_keeps)
     keeps_are setting fits = λ i r. none_at setting fits r i
 
-    begun : (setting : Setting) → IsSession true any_moment (acts_by acts state units) (start_by acts state units)
-        (start_by acts state units) is_cost setting moments_at_first 0 0 first_view (λ role. no_keeps)
-    begun setting =
-        session_starts true any_moment (acts_by acts state units) (start_by acts state units) is_cost setting
-        moments_at_first 0 refl
+    module _ (serial : Bool) (may_tell : ℕ → Type 0) (cost_may_take : ℕ → ℕ → Type 0) (at : FirstMoment serial first)
+        (setting : Setting) (fits : FitsAll plan setting manager) where
+      begun : IsSession serial may_tell (acts_by acts state units) (start_by acts state units)
+          (start_by acts state units) cost_may_take setting moments_at_first first first first_view (λ role. no_keeps)
+      begun =
+          session_starts serial may_tell (acts_by acts state units) (start_by acts state units) cost_may_take setting
+          moments_at_first first at
 
-    -- in the roles' states, which are those of the units
-    in_states : (setting : Setting) → setting.layout ≡ layout
-        → IsSession true any_moment (acts_by acts state units) (start_by acts state units)
-        (states_in acts state layout manager.roles.items) is_cost setting moments_at_first 0 0 first_view
-        (λ role. no_keeps)
-    in_states setting same = record {
-      so_far = (begun setting).so_far;
-      roles = λ role known.
-          so_far_as (acts_by acts state units) (start_by acts state units) (start_by acts state units)
-          (states_in acts state layout manager.roles.items) is_cost setting role (kind_of setting.layout role)
-          (moments_at_first role) (moments_at_first role) [] [] no_keeps no_keeps refl refl refl
-          (λ f own. begins f (subst (λ (l : Layout). f.0 < l.functions) same own.known))
-          ((begun setting).roles role known);
-      ticks = (begun setting).ticks;
-      timed_ticks = (begun setting).timed_ticks;
-    }
+      -- in the roles' states, which are those of the units
+      in_states : IsSession serial may_tell (acts_by acts state units) (start_by acts state units)
+          (states_in acts state layout manager.roles.items) cost_may_take setting moments_at_first first first first_view
+          (λ role. no_keeps)
+      in_states = record {
+        so_far = begun.so_far;
+        roles = λ role known.
+            so_far_as (acts_by acts state units) (start_by acts state units) (start_by acts state units)
+            (states_in acts state layout manager.roles.items) cost_may_take setting role (kind_of setting.layout role)
+            (moments_at_first role) (moments_at_first role) [] [] no_keeps no_keeps refl refl refl
+            (λ f own. begins f (subst (λ (l : Layout). f.0 < l.functions) fits.layout_is own.known))
+            (begun.roles role known);
+        ticks = begun.ticks;
+        timed_ticks = begun.timed_ticks;
+      }
 
-    pub new_underway : (setting : Setting) → FitsAll plan setting manager
-        → IsUnderway acts state true any_moment is_cost 0 units setting manager
-    new_underway setting fits = record {
-      moments = moments_at_first;
-      latest = 0;
-      session =
-          subst (λ (view : FinalView). IsSession true any_moment (acts_by acts state units) (start_by acts state units)
-          (states_in acts state layout manager.roles.items) is_cost setting moments_at_first 0 0 view
+      of_roles : IsSession serial may_tell (acts_by acts state units) (start_by acts state units)
+          (states_in acts state layout manager.roles.items) cost_may_take setting moments_at_first first first
+          (view_of_token manager.first) (keeps_in manager.roles.items)
+      of_roles =
+          subst (λ (view : FinalView). IsSession serial may_tell (acts_by acts state units) (start_by acts state units)
+          (states_in acts state layout manager.roles.items) cost_may_take setting moments_at_first first first view
           (keeps_in manager.roles.items)) (sym view_is)
-          (subst (λ (keeps : ℕ → Keeps). IsSession true any_moment (acts_by acts state units)
-          (start_by acts state units) (states_in acts state layout manager.roles.items) is_cost setting
-          moments_at_first 0 0 first_view keeps) (sym (keeps_are setting fits))
-          (in_states setting fits.layout_is));
-      in_order = λ r role found.
-          subst (λ (log : Log). IsRoleInOrder setting r (moments_at_first r) log role) (sym (log_at r))
-          ((each r role found).in_order setting (moments_at_first r) (fits.fits r role found));
+          (subst (λ (keeps : ℕ → Keeps). IsSession serial may_tell (acts_by acts state units)
+          (start_by acts state units) (states_in acts state layout manager.roles.items) cost_may_take setting
+          moments_at_first first first first_view keeps) (sym (keeps_are setting fits))
+          in_states)
+
+    in_order_at_first : (setting : Setting) → FitsAll plan setting manager
+        → OfEach (λ r role. IsRoleInOrder setting r (moments_at_first r) (kept_log r manager.first) role)
+        manager.roles.items
+    in_order_at_first setting fits r role found =
+        subst (λ (log : Log). IsRoleInOrder setting r (moments_at_first r) log role) (sym (log_at r))
+        ((each r role found).in_order setting (moments_at_first r) (fits.fits r role found))
+
+    -- a serial session begins at 0
+    pub new_underway : FirstMoment true first → (setting : Setting) → FitsAll plan setting manager
+        → IsUnderway acts state true any_moment is_cost first units setting manager
+    new_underway at setting fits = record {
+      moments = moments_at_first;
+      latest = first;
+      session = of_roles true any_moment is_cost at setting fits;
+      in_order = in_order_at_first setting fits;
       started = λ r role found. (each r role found).started;
       bound = λ r role found. (each r role found).bound;
+    }
+
+    pub new_underway_at : (may_tell : ℕ → Type 0) (cost_may_take : ℕ → ℕ → Type 0) (setting : Setting)
+        → FitsAll plan setting manager
+        → IsUnderwayAt acts state may_tell cost_may_take first first units setting manager
+    new_underway_at may_tell cost_may_take setting fits = record {
+      underway = record {
+        moments = moments_at_first;
+        latest = first;
+        session = of_roles false may_tell cost_may_take tt setting fits;
+        in_order = in_order_at_first setting fits;
+        started = λ r role found. (each r role found).started;
+        bound = λ r role found. (each r role found).bound;
+      };
+      reached = omega arith;
     }

@@ -19,7 +19,6 @@ use Rattle.onvm_core.specs.Logs.{Setting}
 use Rattle.onvm_core.specs.Settings.{frame_count}
 use Rattle.onvm_promises.specs.Entries.{entries_from}
 use Rattle.onvm_promises.specs.Roles.{Fits, IsTickPromise, setting_of}
-use Rattle.onvm_promises.specs.Sampling.{is_cost}
 use Rattle.rx_pass.proofs.Queues.{entries_long}
 use Rattle.tick_pass.specs.Roles.{logged, ticked}
 use Rattle.onvm_session.specs.declared.leaving.Leavings.{Leavings}
@@ -38,19 +37,36 @@ use Rattle.onvm_session.proofs.PutTogether.{keeps_other, kinds_then, run_lists, 
 use Rattle.onvm_session.proofs.SessionLists.{closing_counted, frames_pulled, session_lists}
 use Rattle.onvm_session.specs.Accounts.{IsAccounted}
 use Rattle.onvm_session.specs.Boards.{view_of_closed, view_of_token}
-use Rattle.onvm_session.specs.Closings.{AreLeftOf, IsBoardOf, IsClosingTurn, IsRunOfKept, IsRunOfLists}
-use Rattle.onvm_session.specs.Endings.{Closes, IsClosed}
+use Rattle.onvm_session.specs.Closings.{AreLeftOf, IsBoardOf, IsClosedRun, IsClosingTurn, IsRunOfKept, IsRunOfLists}
+use Rattle.onvm_session.specs.Endings.{Closes, IsClosed, IsClosingMoment}
 use Rattle.onvm_session.specs.Gathering.{AreRunLists, feeders_kept, recorded_count}
-use Rattle.onvm_session.specs.Managers.{FitsAll, IsManager, IsOver, IsUnderway, keeps_at, keeps_in, place_now, pulled_at, round_now, states_in}
-use Rattle.onvm_session.specs.Moments.{moment_of_round}
+use Rattle.onvm_session.specs.Managers.{FitsAll, IsManager, IsOver, IsUnderway, keeps_at, keeps_in, pulled_at, states_in}
 use Rattle.onvm_session.specs.RoleStates.{FitsOne, acts_by, ended_in, keeps_of, kind_in, pulled_in, start_by}
-use Rattle.onvm_session.specs.Runs.{any_moment, view_of_run}
+use Rattle.onvm_session.specs.Runs.{any_span, view_of_run}
 use Rattle.onvm_session.specs.Sessions.{after_turn}
 
 -- what holds of an answer that is no refusal
 pub when_ok : {T E P : Type 0} (answer : Result T E) → is_err answer ≡ false → OnOk answer P → P
 when_ok (Ok x) fine holds = holds
 when_ok (Err e) fine holds = absurd (cc fine)
+
+-- the run, if there is one
+pub closed_run : {I N : Type 0} (plan : Plan) (now : ℕ) (old later : Manager I N) (none left : Leavings I)
+    (closed : ClosedView) → IsClosingTurn plan now old later → IsBoardOf later closed
+    → AreLeftOf later.roles.items none left → (outcome : Result Run Stop)
+    → IsRunOfLists left.complete left.gathered left.samples left.ticks closed outcome
+    → IfOk outcome (λ run. IsClosedRun plan now old run)
+closed_run plan now old later none left closed turn board gone (Ok run) of = record {
+  later = later;
+  none = none;
+  left = left;
+  closed = closed;
+  turn = turn;
+  board_of = board;
+  left_of = gone;
+  lists = of;
+}
+closed_run plan now old later none left closed turn board gone (Err stop) of = tt
 
 -- Frames
 
@@ -76,11 +92,11 @@ fits_whole layout plan port (Handle core) setting kind ended fits = absurd (cc k
 fits_whole layout plan port (Tick tick) setting kind ended fits = absurd (cc kind)
 
 module _ {I N : Type 0} (acts : N → Acts) (state : N → Tree) (plan : Plan) (old new : Manager I N)
-    (manager : IsManager acts state is_cost plan old)
+    (manager : IsManager acts state any_span plan old)
   where
     kinds : AreOfKinds old.board.layout old.roles.items
     kinds r role found =
-        ready_kind acts state is_cost old.board plan (split_token r old.first) role (manager.ready r role found)
+        ready_kind acts state any_span old.board plan (split_token r old.first) role (manager.ready r role found)
 
     -- as many records as frames
     frames_are : (entries : List Entry) → IsOver old → FitsAll plan (setting_of old.board.layout plan entries) old
@@ -141,17 +157,19 @@ module _ {I N : Type 0} (acts : N → Acts) (state : N → Tree) (plan : Plan) (
             })
             ∙ turn.view
 
-        module _ (units : List N) (entries : List Entry)
+        module _ (serial : Bool) (may_tell : ℕ → Type 0) (cost_may_take : ℕ → ℕ → Type 0) (first : ℕ) (units : List N)
+            (entries : List Entry)
             (fits : FitsAll plan (setting_of old.board.layout plan entries) old)
-            (under : IsUnderway acts state true any_moment is_cost 0 units
+            (under : IsUnderway acts state serial may_tell cost_may_take first units
             (setting_of old.board.layout plan entries) old)
-            (place : place_now old ≡ 0) (some : 0 < round_now old)
-            (at : now ≡ moment_of_round (round_now old - 1)) (over : IsOver old)
+            (at : IsClosingMoment serial may_tell (setting_of old.board.layout plan entries)
+            (view_of_token old.first) under.latest now)
+            (over : IsOver old)
           where
             abbrev setting : Setting
             setting = setting_of old.board.layout plan entries
 
-            closes : Closes true any_moment setting under.moments 0 under.latest (view_of_token old.first)
+            closes : Closes serial may_tell setting under.moments first under.latest (view_of_token old.first)
                 (keeps_in old.roles.items) turn.seen now turn.log (keeps_of {I = I} {N = N} (Tick turn.after))
                 (view_of_run run)
             closes = record {
@@ -168,7 +186,7 @@ module _ {I N : Type 0} (acts : N → Acts) (state : N → Tree) (plan : Plan) (
                   (turn.promise setting (under.moments (tick_role setting.layout)) refl refl
                   (under.in_order (tick_role setting.layout) (Tick turn.before) turn.was));
               complete = turn.complete;
-              at = (place, some, at);
+              at = at;
               view = view;
               samples = run_is.samples_are ∙ told.0;
               ticks = run_is.ticks_are ∙ told.1;
@@ -181,21 +199,21 @@ module _ {I N : Type 0} (acts : N → Acts) (state : N → Tree) (plan : Plan) (
                 (ap view_of_closed run_is.closed_is)
                 (ap (λ (c : ClosedView). c.left) run_is.closed_is)
 
-            accounted : IsAccounted true any_moment is_cost (acts_by acts state units) (start_by acts state units)
+            accounted : IsAccounted serial may_tell cost_may_take (acts_by acts state units) (start_by acts state units)
                 setting (view_of_run run)
             accounted =
-                done true any_moment (acts_by acts state units) (start_by acts state units)
-                (states_in acts state old.board.layout old.roles.items) is_cost setting under.moments 0 under.latest
-                (view_of_token old.first) (keeps_in old.roles.items) turn.seen now turn.log
+                done serial may_tell (acts_by acts state units) (start_by acts state units)
+                (states_in acts state old.board.layout old.roles.items) cost_may_take setting under.moments first
+                under.latest (view_of_token old.first) (keeps_in old.roles.items) turn.seen now turn.log
                 (keeps_of {I = I} {N = N} (Tick turn.after)) (view_of_run run) manager.ranges fits.is under.session closes
                 is_closed
-                (session_lists true any_moment (acts_by acts state units) (start_by acts state units)
-                (states_in acts state old.board.layout old.roles.items) is_cost setting under.moments 0 under.latest
-                (view_of_token old.first) (keeps_in old.roles.items) under.session turn.seen now turn.log
+                (session_lists serial may_tell (acts_by acts state units) (start_by acts state units)
+                (states_in acts state old.board.layout old.roles.items) cost_may_take setting under.moments first
+                under.latest (view_of_token old.first) (keeps_in old.roles.items) under.session turn.seen now turn.log
                 (keeps_of {I = I} {N = N} (Tick turn.after)) (view_of_run run) manager.ranges fits.is closes is_closed lists)
-                (closing_counted true any_moment (acts_by acts state units) (start_by acts state units)
-                (states_in acts state old.board.layout old.roles.items) is_cost setting under.moments 0 under.latest
-                (view_of_token old.first) (keeps_in old.roles.items) under.session turn.seen now turn.log
+                (closing_counted serial may_tell (acts_by acts state units) (start_by acts state units)
+                (states_in acts state old.board.layout old.roles.items) cost_may_take setting under.moments first
+                under.latest (view_of_token old.first) (keeps_in old.roles.items) under.session turn.seen now turn.log
                 (keeps_of {I = I} {N = N} (Tick turn.after)) (view_of_run run) manager.ranges fits.is closes is_closed
                 ∙ frames_are entries over fits)
 
@@ -213,41 +231,39 @@ module _ {I N : Type 0} (acts : N → Acts) (state : N → Tree) (plan : Plan) (
             (λ fits. frames_are setting.entries over fits) fits
 
         -- of any setting of the layout and plan
-        finished : place_now old ≡ 0 → 0 < round_now old → now ≡ moment_of_round (round_now old - 1)
+        finished : (serial : Bool) (may_tell : ℕ → Type 0) (cost_may_take : ℕ → ℕ → Type 0) (first : ℕ)
             → IsOver old
             → (units : List N) (setting : Setting) → FitsAll plan setting old
-            → IsUnderway acts state true any_moment is_cost 0 units setting old
-            → IsAccounted true any_moment is_cost (acts_by acts state units) (start_by acts state units) setting
+            → (under : IsUnderway acts state serial may_tell cost_may_take first units setting old)
+            → IsClosingMoment serial may_tell setting (view_of_token old.first) under.latest now
+            → IsAccounted serial may_tell cost_may_take (acts_by acts state units) (start_by acts state units) setting
             (view_of_run run)
-        finished place some at over units setting fits under =
+        finished serial may_tell cost_may_take first over units setting fits under at =
             subst (λ (s : Setting). FitsAll plan s old
-            → IsUnderway acts state true any_moment is_cost 0 units s old
-            → IsAccounted true any_moment is_cost (acts_by acts state units) (start_by acts state units) s
+            → (under : IsUnderway acts state serial may_tell cost_may_take first units s old)
+            → IsClosingMoment serial may_tell s (view_of_token old.first) under.latest now
+            → IsAccounted serial may_tell cost_may_take (acts_by acts state units) (start_by acts state units) s
             (view_of_run run))
             (setting_is old.board.layout plan setting fits.layout_is fits.plan_is)
-            (λ fits under. accounted units setting.entries fits under place some at over) fits under
+            (λ fits under at. accounted serial may_tell cost_may_take first units setting.entries fits under at over)
+            fits under at
 
-    -- the run, if there is one
-    pub all_finished : (now : ℕ) (none left : Leavings I) (closed : ClosedView)
-        → IsClosingTurn plan now old new → IsBoardOf new closed → AreLeftOf new.roles.items none left
-        → place_now old ≡ 0 → 0 < round_now old → now ≡ moment_of_round (round_now old - 1) → IsOver old
-        → (outcome : Result Run Stop)
-        → IsRunOfLists left.complete left.gathered left.samples left.ticks closed outcome
-        → IfOk outcome (λ run. (units : List N) (setting : Setting) → FitsAll plan setting old
-        → IsUnderway acts state true any_moment is_cost 0 units setting old
-        → IsAccounted true any_moment is_cost (acts_by acts state units) (start_by acts state units) setting
-        (view_of_run run))
-    all_finished now none left closed turn board gone place some at over (Ok run) of =
-        finished now none left closed turn board gone run of.0 of.1 place some at over
-    all_finished now none left closed turn board gone place some at over (Err stop) of = tt
+module _ {I N : Type 0} (acts : N → Acts) (state : N → Tree) (plan : Plan) (now : ℕ) (old : Manager I N) (run : Run)
+    (manager : IsManager acts state any_span plan old) (over : IsOver old) (closed : IsClosedRun plan now old run)
+  where
+    -- the run behind the closing turn of a session of any kind
+    pub run_accounted : (serial : Bool) (may_tell : ℕ → Type 0) (cost_may_take : ℕ → ℕ → Type 0) (first : ℕ)
+        (units : List N) (setting : Setting) → FitsAll plan setting old
+        → (under : IsUnderway acts state serial may_tell cost_may_take first units setting old)
+        → IsClosingMoment serial may_tell setting (view_of_token old.first) under.latest now
+        → IsAccounted serial may_tell cost_may_take (acts_by acts state units) (start_by acts state units) setting
+        (view_of_run run)
+    run_accounted serial may_tell cost_may_take first units setting fits under at =
+        finished acts state plan old closed.later manager now closed.none closed.left closed.closed closed.turn
+        closed.board_of closed.left_of run closed.lists.0 closed.lists.1 serial may_tell cost_may_take first over units
+        setting fits under at
 
-    pub all_counted : (now : ℕ) (none left : Leavings I) (closed : ClosedView)
-        → IsClosingTurn plan now old new → IsBoardOf new closed → AreLeftOf new.roles.items none left
-        → IsOver old
-        → (outcome : Result Run Stop)
-        → IsRunOfLists left.complete left.gathered left.samples left.ticks closed outcome
-        → IfOk outcome (λ run. (setting : Setting) → FitsAll plan setting old
-        → length run.records ≡ frame_count setting)
-    all_counted now none left closed turn board gone over (Ok run) of =
-        counted now none left closed turn board gone run of.0 of.1 over
-    all_counted now none left closed turn board gone over (Err stop) of = tt
+    pub run_counted : (setting : Setting) → FitsAll plan setting old → length run.records ≡ frame_count setting
+    run_counted setting fits =
+        counted acts state plan old closed.later manager now closed.none closed.left closed.closed closed.turn
+        closed.board_of closed.left_of run closed.lists.0 closed.lists.1 over setting fits

@@ -25,9 +25,9 @@ led_append : (later before : Log) → AreLed later → AreLed before → AreLed 
 led_append [] before led earlier = earlier
 led_append (act ∷ later) before led earlier = (led.0, led_append later before led.1 earlier)
 
-led_splits : (n : ℕ) → AreLed (splits n)
-led_splits zero = tt
-led_splits (suc n) = (tt, led_splits n)
+led_splits : (n role : ℕ) → AreLed (splits n role)
+led_splits zero role = tt
+led_splits (suc n) role = (tt, led_splits n (role + 1))
 
 led_joins : (n : ℕ) → AreLed (joins n)
 led_joins zero = tt
@@ -41,9 +41,9 @@ led_phases : (layout : Layout) (lead : Log) → ArePhases layout lead → AreLed
 led_phases layout lead NoPhase = tt
 led_phases layout lead (APhase seen before are) = (
   refl,
-  led_append (joins (first_role layout) ++ splits (first_role layout)) before
-      (led_append (joins (first_role layout)) (splits (first_role layout)) (led_joins (first_role layout))
-      (led_splits (first_role layout)))
+  led_append (joins (first_role layout) ++ splits (first_role layout) 0) before
+      (led_append (joins (first_role layout)) (splits (first_role layout) 0) (led_joins (first_role layout))
+      (led_splits (first_role layout) 0))
       (led_phases layout before are),
 )
 

@@ -1,4 +1,5 @@
 pub mod Accounted
+pub mod AnySpans
 pub mod Answered
 pub mod Ascending
 pub mod Beginnings

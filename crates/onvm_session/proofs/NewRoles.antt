@@ -42,6 +42,7 @@ stays_same name_of (Some (feed.Made making)) now same = (making, same, refl, ref
 
 module _ {I N : Type 0} (name_of : I → List ℕ) (left_of : I → Option (List ℕ)) (takes_of : I → Amounts)
     (acts : N → Acts) (state : N → Tree) (site : BoardView) (plan : Plan) (units : List N) (feeds : List (Feed I))
+    (first : ℕ)
   where
     pub receiver_new : (port : ℕ) (given : Option (Feed I)) (rx : RxRole I)
         → IsNewReceiver site plan (record { 0 = port }) rx → rx.intake.feed ≡ given
@@ -49,7 +50,7 @@ module _ {I N : Type 0} (name_of : I → List ℕ) (left_of : I → Option (List
         → ((left : Option (List ℕ)) (takes : Amounts) → WasLeft left_of takes_of left takes given
         → IsTakenFrom left_of takes_of left takes rx.intake.feed rx.intake.standing)
         → slice_get feeds port ≡ given
-        → IsNewRole name_of left_of takes_of acts state site plan units feeds port (Receive rx)
+        → IsNewRole name_of left_of takes_of acts state site plan units feeds first port (Receive rx)
     receiver_new port given rx new same pulled since at = record {
       ready = λ token board role log hand. new.ready token board role log hand;
       in_order = λ setting moment fits. new.in_order setting moment fits;
@@ -67,7 +68,7 @@ module _ {I N : Type 0} (name_of : I → List ℕ) (left_of : I → Option (List
     }
 
     pub sender_new : (number : ℕ) (tx : TxRole) → IsNewSender site plan number tx
-        → IsNewRole name_of left_of takes_of acts state site plan units feeds number (Send tx)
+        → IsNewRole name_of left_of takes_of acts state site plan units feeds first number (Send tx)
     sender_new number tx new = record {
       ready = λ token board role log hand. new.ready token board role log hand;
       in_order = λ setting moment fits.
@@ -89,7 +90,7 @@ module _ {I N : Type 0} (name_of : I → List ℕ) (left_of : I → Option (List
         → handler.units.items ≡ units_of core plan.functions units
         → handler.began.value.items ≡ units_of core plan.functions units
         → ((token : TokenView) → IsFresh site core token → IsCoreRole acts state site plan token handler)
-        → IsNewRole name_of left_of takes_of acts state site plan units feeds role (Handle handler)
+        → IsNewRole name_of left_of takes_of acts state site plan units feeds first role (Handle handler)
     core_new core role handler of role_is long functions own began ready = record {
       ready = λ token board number log hand. (
         ready token
@@ -129,13 +130,13 @@ module _ {I N : Type 0} (name_of : I → List ℕ) (left_of : I → Option (List
         → role ≡ plan.ports + plan.transmit + plan.cores
         → ((token : TokenView) → token.board ≡ site.id → token.role ≡ tick_role site.layout → token.log ≡ []
         → IsTickRole site plan false token tick)
-        → first_of tick ≡ 0 → latest_of tick ≡ 0 → logged tick ≡ [] → ticked tick ≡ []
-        → IsNewRole name_of left_of takes_of acts state site plan units feeds role (Tick tick)
-    ticker_new role tick of role_is ready first latest samples ticks = record {
+        → first_of tick ≡ first → latest_of tick ≡ first → logged tick ≡ [] → ticked tick ≡ []
+        → IsNewRole name_of left_of takes_of acts state site plan units feeds first role (Tick tick)
+    ticker_new role tick of role_is ready began latest samples ticks = record {
       ready = λ token board number log hand.
           ready token board (omega (arith, number, role_is, of.ports, of.transmit, of.cores)) log;
       in_order = λ setting moment fits. record { blocks = tt; kept = samples };
-      started = first;
+      started = began;
       bound = tt;
       states = tt;
       unticked = ticks;
@@ -144,14 +145,14 @@ module _ {I N : Type 0} (name_of : I → List ℕ) (left_of : I → Option (List
     }
 
     pub one_more_new : (n more : ℕ) (roles later : List (Role I N)) (role : Role I N) → later ≡ roles ++ role ∷ []
-        → more ≡ n + 1 → AreNewUpTo name_of left_of takes_of acts state site plan units feeds n roles
-        → IsNewRole name_of left_of takes_of acts state site plan units feeds n role
-        → AreNewUpTo name_of left_of takes_of acts state site plan units feeds more later
+        → more ≡ n + 1 → AreNewUpTo name_of left_of takes_of acts state site plan units feeds first n roles
+        → IsNewRole name_of left_of takes_of acts state site plan units feeds first n role
+        → AreNewUpTo name_of left_of takes_of acts state site plan units feeds first more later
     one_more_new n more roles later role grown counted new last = record {
       many = (let long = ap length grown in
           let pushed = length_push roles role in
           omega (arith, long, pushed, counted, new.many));
-      each = each_more (IsNewRole name_of left_of takes_of acts state site plan units feeds) roles later role n grown
+      each = each_more (IsNewRole name_of left_of takes_of acts state site plan units feeds first) roles later role n grown
           new.many new.each last;
     }
 

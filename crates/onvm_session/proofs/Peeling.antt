@@ -1,5 +1,5 @@
 -- A whole turn, off the end of a history behind which no role is split.
-use Rattle.std.proofs.Common.{◌≡◌, ℕ, zero, suc, ◌≤◌, Bool, true, false, if◌then◌else◌, inl, inr, List, [], ◌∷◌, ◌++◌, length, refl, sym, ◌∙◌, ap, subst, arith, append_assoc}
+use Rattle.std.proofs.Common.{◌≡◌, ℕ, zero, suc, ◌+◌, ◌≤◌, Bool, true, false, if◌then◌else◌, inl, inr, List, [], ◌∷◌, ◌++◌, length, refl, sym, ◌∙◌, ap, subst, arith, append_assoc}
 use Rattle.std.specs.Prelude.{◌==◌}
 use Rattle.std.proofs.lemmas.Bool.{cases_Bool, or_cases, eqb-true, eqb-false, eq-eqb, ne_eqb, both_ways}
 use Rattle.onvm_core.specs.declared.layout.Layout.{Layout}
@@ -70,18 +70,20 @@ joins_off (suc n) role log off =
           ∙ joins_off n role log (λ from. off (omega (arith, from, eqb-false n role unmet)))
     ]
 
-splits_off : (n role : ℕ) (log : Log) → n ≤ role → split_in role log ≡ false → split_in role (splits n ++ log) ≡ false
-splits_off zero role log behind off = off
-splits_off (suc n) role log behind off =
-    if_unmet (n == role) true (split_in role (splits n ++ log)) (ne_eqb n role (λ e. omega (arith, e, behind)))
-    ∙ splits_off n role log (omega (arith, behind)) off
+splits_off : (n from role : ℕ) (log : Log) → from + n ≤ role → split_in role log ≡ false
+    → split_in role (splits n from ++ log) ≡ false
+splits_off zero from role log behind off = off
+splits_off (suc n) from role log behind off =
+    if_unmet (from == role) true (split_in role (splits n (from + 1) ++ log))
+    (ne_eqb from role (λ e. omega (arith, e, behind)))
+    ∙ splits_off n (from + 1) role log (omega (arith, behind)) off
 
 pub phases_none : (layout : Layout) (lead : Log) → ArePhases layout lead → NoneSplit lead
 phases_none layout lead NoPhase role = refl
 phases_none layout lead (APhase seen before are) role =
-    ap (split_in role) (append_assoc (joins (first_role layout)) (splits (first_role layout)) before)
-    ∙ joins_off (first_role layout) role (splits (first_role layout) ++ before)
-    (λ behind. splits_off (first_role layout) role before behind (phases_none layout before are role))
+    ap (split_in role) (append_assoc (joins (first_role layout)) (splits (first_role layout) 0) before)
+    ∙ joins_off (first_role layout) role (splits (first_role layout) 0 ++ before)
+    (λ behind. splits_off (first_role layout) 0 role before (omega (arith, behind)) (phases_none layout before are role))
 
 -- who acts, other than the first token, is split
 acting_split : (layout : Layout) (step : Step) (before : History) → IsLawful layout (step ∷ before)

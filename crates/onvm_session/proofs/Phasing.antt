@@ -1,5 +1,5 @@
 -- The session by phases: from phase to phase, and the closing turn of any session.
-use Rattle.std.proofs.Common.{◌≡◌, ℕ, zero, suc, ◌<◌, ◌≤◌, inl, inr, List, [], ◌∷◌, ◌++◌, length, refl, sym, ◌∙◌, ap, subst, arith, append_assoc}
+use Rattle.std.proofs.Common.{◌≡◌, ℕ, zero, suc, ◌+◌, ◌<◌, ◌≤◌, inl, inr, List, [], ◌∷◌, ◌++◌, length, refl, sym, ◌∙◌, ap, subst, arith, append_assoc}
 use Rattle.std.specs.Prelude.{◌==◌, nat_lt}
 use Rattle.std.proofs.lemmas.Bool.{cases_Bool, eqb-true, eqb-false, eq-eqb, ne_eqb, ltb-true, ltb-false}
 use Rattle.onvm_session.specs.Views.ArePhases.{APhase}
@@ -19,9 +19,9 @@ abbrev joined : (ℕ → Log) → ℕ → List Turn
 joined logs zero = []
 joined logs (suc n) = record { role = n; count = length (logs n) } ∷ joined logs n
 
-turns_splits : (n : ℕ) (lead : Log) (counts : List ℕ) → turns (splits n ++ lead) counts ≡ turns lead counts
-turns_splits zero lead counts = refl
-turns_splits (suc n) lead counts = turns_splits n lead counts
+turns_splits : (n role : ℕ) (lead : Log) (counts : List ℕ) → turns (splits n role ++ lead) counts ≡ turns lead counts
+turns_splits zero role lead counts = refl
+turns_splits (suc n) role lead counts = turns_splits n (role + 1) lead counts
 
 turns_joins : (logs : ℕ → Log) (n : ℕ) (lead : Log) (counts : List ℕ)
     → turns (joins n ++ lead) (lengths_of logs n ++ counts) ≡ joined logs n ++ turns lead counts
@@ -60,9 +60,9 @@ pub phase_next : (may_tell : ℕ → Type 0) (setting : Setting) (moments now : 
 phase_next may_tell setting moments now final seen logs so_far role_steps timed =
     let n : ℕ = first_role setting.layout in
     let read : turns_in (after_phase n seen logs final) ≡ joined logs n ++ turns_in final =
-    ap (λ (lead : Log). turns lead (lengths_of logs n ++ final.counts)) (append_assoc (joins n) (splits n) final.lead)
-    ∙ turns_joins logs n (splits n ++ final.lead) final.counts
-    ∙ ap (λ (ts : List Turn). joined logs n ++ ts) (turns_splits n final.lead final.counts) in
+    ap (λ (lead : Log). turns lead (lengths_of logs n ++ final.counts)) (append_assoc (joins n) (splits n 0) final.lead)
+    ∙ turns_joins logs n (splits n 0 ++ final.lead) final.counts
+    ∙ ap (λ (ts : List Turn). joined logs n ++ ts) (turns_splits n 0 final.lead final.counts) in
     record {
       phases = APhase seen final.lead so_far.phases;
       kept = λ role. elim (cases_Bool (nat_lt role n)) [

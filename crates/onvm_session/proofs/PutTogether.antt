@@ -19,7 +19,7 @@ use Rattle.onvm_session.specs.declared.role.Role.TheVariants.{Tick}
 use Rattle.onvm_session.specs.declared.run.Run.{Run}
 use Rattle.onvm_session.proofs.Growing.{some_inj}
 use Rattle.onvm_session.proofs.LeftLists.{AreOfKinds, counts_left, feeders_left, lists_left}
-use Rattle.onvm_session.specs.Closings.{IsRunOfKept}
+use Rattle.onvm_session.specs.Closings.{AreLeftOf, IsRunOfKept}
 use Rattle.onvm_session.specs.Gathering.{AreRunLists, IsByFrame, cores_counted, feeders_kept}
 use Rattle.onvm_session.specs.Leaving.{HasLeft, HaveLeft, feeds_of, kept_of}
 use Rattle.onvm_session.specs.Managers.{keeps_at, keeps_in}

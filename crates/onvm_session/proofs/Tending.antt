@@ -58,15 +58,15 @@ module _ {I N : Type 0} (name_of : I → List ℕ) (left_of : I → Option (List
     pub none : manager.feeds.items ≡ []
     pub room : plan.ports ≤ vec_capacity manager.feeds
 
-  pub tended_first : (acts : N → Acts) (state : N → Tree) (units : List N) (manager : Manager I N)
-      → IsNewManager name_of left_of takes_of acts state plan units given manager → IsTended manager
-  tended_first acts state units manager new = record {
+  pub tended_first : (acts : N → Acts) (state : N → Tree) (units : List N) (first : ℕ) (manager : Manager I N)
+      → IsNewManager name_of left_of takes_of acts state plan units given first manager → IsTended manager
+  tended_first acts state units first manager new = record {
     layout_of = new.layout_of;
     ranges = new.ranges;
     many = new.roles.many;
     kinds = λ r role found.
         ready_kind acts state is_cost manager.board plan (split_token r manager.first) role
-        ((new_manager name_of left_of takes_of acts state plan units given manager new).ready r role found);
+        ((new_manager name_of left_of takes_of acts state plan units given first manager new is_cost).ready r role found);
     fed = λ r role found. (new.roles.each r role found).fed;
     none = new.feeds;
     room = new.feed_room;

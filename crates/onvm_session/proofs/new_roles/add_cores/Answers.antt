@@ -43,23 +43,23 @@ loop-room-preserved g c =
       space = omega (arith, space, less, longer, capacity);
       capacity = omega (arith, capacity, same);
       many = omega (arith, many, longer, n);
-      new = λ site plan units feeds of cores long own old.
+      new = λ site plan units feeds first of cores long own old.
           let room = left_here c.args.rooms.items (into_iter_items (zip_first at.room-iterator))
           (into_iter_items (zip_first now)) core (into_iter_len (zip_first at.room-iterator))
           (into_iter_len (zip_first now)) (Some c.in-Some.room) was.rooms step.0 in
           let list = left_here c.args.lists.items (into_iter_items (zip_second at.room-iterator))
           (into_iter_items (zip_second now)) core (into_iter_len (zip_second at.room-iterator))
           (into_iter_len (zip_second now)) (Some c.in-Some.own) was.lists step.1 in
-          one_more_new _ _ _ _ _ site plan units feeds (plan.ports + plan.transmit + core)
+          one_more_new _ _ _ _ _ site plan units feeds first (plan.ports + plan.transmit + core)
           (plan.ports + plan.transmit + length (at.yielded ++ (c.in-Some.room, c.in-Some.own) ∷ [])) at.roles.items
           c.push_reserved.new.self.items c.handler.result pushed.items (omega (arith, n))
-          (was.new site plan units feeds of cores long own old)
-          (c.handler.ensures site plan units feeds core of (cores.each core c.in-Some.room room) long
+          (was.new site plan units feeds first of cores long own old)
+          (c.handler.ensures site plan units feeds first core of (cores.each core c.in-Some.room room) long
           (own.each core c.in-Some.own list));
     }
 
 pub returns-clause-new : goal.returns-clause-new
-returns-clause-new g c = λ site plan units feeds of cores long own old.
+returns-clause-new g c = λ site plan units feeds first of cores long own old.
     let at = c.loop-room in
     let rooms_left = at.invariant.rooms_left in
     let lists_left = at.invariant.lists_left in
@@ -71,5 +71,5 @@ returns-clause-new g c = λ site plan units feeds of cores long own old.
     ] in
     subst (λ (n : ℕ).
     AreNewUpTo g.I.Source.name g.I.Source.left g.I.Source.takes g.N.NetFunction.acts g.N.NetFunction.state site plan
-    units feeds (plan.ports + plan.transmit + n) at.roles.items) all
-    (at.invariant.new site plan units feeds of cores long own old)
+    units feeds first (plan.ports + plan.transmit + n) at.roles.items) all
+    (at.invariant.new site plan units feeds first of cores long own old)

@@ -1,4 +1,4 @@
-use Rattle.std.proofs.Common.{◌≡◌, ◌+◌, ◌≤◌, List, length, vec_capacity, vec_len}
+use Rattle.std.proofs.Common.{◌≡◌, ◌+◌, ◌≤◌, ℕ, List, length, vec_capacity, vec_len}
 use Rattle.std.specs.Iterator.Adapters.{zip_first, zip_second}
 use Rattle.std.specs.Vec.Iter.{into_iter_items, into_iter_len}
 use Rattle.onvm_base.specs.declared.plan.Plan.{Plan}
@@ -22,11 +22,11 @@ invariant-loop-room g l = record {
   space : vec_len l.roles + into_iter_len (zip_first l.room-iterator) ≤ vec_capacity l.roles;
   capacity : vec_capacity l.roles ≡ vec_capacity l.initial.roles;
   many : vec_len l.roles ≡ vec_len l.initial.roles + length l.yielded;
-  new : (site : BoardView) (plan : Plan) (units : List g.row.N.Denot) (feeds : List (Feed g.row.I.Denot))
+  new : (site : BoardView) (plan : Plan) (units : List g.row.N.Denot) (feeds : List (Feed g.row.I.Denot)) (first : ℕ)
       → IsLayoutOf plan site.layout → AreCores site plan plan.cores l.fn.rooms.items
       → length units ≡ length plan.functions → AreUnitsOf plan units l.fn.lists.items
       → AreNewUpTo g.I.Source.name g.I.Source.left g.I.Source.takes g.N.NetFunction.acts g.N.NetFunction.state
-      site plan units feeds (plan.ports + plan.transmit) l.initial.roles.items
+      site plan units feeds first (plan.ports + plan.transmit) l.initial.roles.items
       → AreNewUpTo g.I.Source.name g.I.Source.left g.I.Source.takes g.N.NetFunction.acts g.N.NetFunction.state
-      site plan units feeds (plan.ports + plan.transmit + length l.yielded) l.roles.items;
+      site plan units feeds first (plan.ports + plan.transmit + length l.yielded) l.roles.items;
 }

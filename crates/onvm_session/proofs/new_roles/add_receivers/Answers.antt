@@ -52,14 +52,14 @@ loop-room-preserved g c =
       space = omega (arith, space, less, longer, capacity);
       capacity = omega (arith, capacity, same);
       many = omega (arith, many, longer, n);
-      new = λ site plan units of receivers.
+      new = λ site plan units first of receivers.
           let here = takes_here c.args.rooms.items at.yielded (into_iter_items at.room-iterator)
           (into_iter_items c.next.new.self) (into_iter_len at.room-iterator) room was.taking step.0 in
           let feed = left_here c.args.feeds (into_iter_items at.given) (into_iter_items asked.new.self) port
           (into_iter_len at.given) (into_iter_len asked.new.self) asked.result was.given asked.ensures.cases in
-          one_more_new _ _ _ _ _ site plan units c.args.feeds port (length (at.yielded ++ room ∷ [])) at.roles.items
-          c.push_reserved.new.self.items c.receiver.result pushed.items n (was.new site plan units of receivers)
-          (c.receiver.ensures site plan units c.args.feeds (record { 0 = port }) of (receivers.each port room here)
+          one_more_new _ _ _ _ _ site plan units c.args.feeds first port (length (at.yielded ++ room ∷ [])) at.roles.items
+          c.push_reserved.new.self.items c.receiver.result pushed.items n (was.new site plan units first of receivers)
+          (c.receiver.ensures site plan units c.args.feeds first (record { 0 = port }) of (receivers.each port room here)
           feed);
     }
 
@@ -72,11 +72,11 @@ returns g c =
     let many = at.invariant.many in
     let rooms = c.args.rooms.ok.0 in
     record {
-      new = λ site plan units of receivers.
+      new = λ site plan units first of receivers.
           subst (λ (n : ℕ).
           AreNewUpTo g.I.Source.name g.I.Source.left g.I.Source.takes g.N.NetFunction.acts g.N.NetFunction.state
-          site plan units c.args.feeds n at.roles.items)
-          (long ∙ receivers.many) (at.invariant.new site plan units of receivers);
+          site plan units c.args.feeds first n at.roles.items)
+          (long ∙ receivers.many) (at.invariant.new site plan units first of receivers);
       room = at.invariant.capacity;
       many = omega (arith, many, long, rooms);
     }

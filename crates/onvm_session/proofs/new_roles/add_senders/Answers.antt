@@ -29,13 +29,13 @@ loop-room-preserved g c =
       space = omega (arith, space, less, longer, capacity);
       capacity = omega (arith, capacity, same);
       many = omega (arith, many, longer, n);
-      new = λ site plan units feeds senders old.
+      new = λ site plan units feeds first senders old.
           let here = takes_here c.args.rooms.items at.yielded (into_iter_items at.room-iterator)
           (into_iter_items c.next.new.self) (into_iter_len at.room-iterator) room was.taking step.0 in
-          one_more_new _ _ _ _ _ site plan units feeds (plan.ports + length at.yielded)
+          one_more_new _ _ _ _ _ site plan units feeds first (plan.ports + length at.yielded)
           (plan.ports + length (at.yielded ++ room ∷ [])) at.roles.items c.push_reserved.new.self.items
-          c.sender.result pushed.items (omega (arith, n)) (was.new site plan units feeds senders old)
-          (c.sender.ensures site plan units feeds (plan.ports + length at.yielded)
+          c.sender.result pushed.items (omega (arith, n)) (was.new site plan units feeds first senders old)
+          (c.sender.ensures site plan units feeds first (plan.ports + length at.yielded)
           (senders.each (length at.yielded) room here));
     }
 
@@ -48,11 +48,11 @@ returns g c =
     let many = at.invariant.many in
     let rooms = c.args.rooms.ok.0 in
     record {
-      new = λ site plan units feeds senders old.
+      new = λ site plan units feeds first senders old.
           subst (λ (n : ℕ).
           AreNewUpTo g.I.Source.name g.I.Source.left g.I.Source.takes g.N.NetFunction.acts g.N.NetFunction.state
-          site plan units feeds (plan.ports + n) at.roles.items)
-          (long ∙ senders.many) (at.invariant.new site plan units feeds senders old);
+          site plan units feeds first (plan.ports + n) at.roles.items)
+          (long ∙ senders.many) (at.invariant.new site plan units feeds first senders old);
       room = at.invariant.capacity;
       many = omega (arith, many, long, rooms);
     }

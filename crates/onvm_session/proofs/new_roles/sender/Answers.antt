@@ -5,6 +5,6 @@ use Rattle.onvm_session.proofs.NewRoles.{sender_new}
 use Rattle.onvm_session.proofs.new_roles.sender.Goals as goal
 
 pub returns : goal.returns
-returns g c = λ site plan units feeds number new.
-    sender_new _ _ _ _ _ site plan units feeds number c.start.result
+returns g c = λ site plan units feeds first number new.
+    sender_new _ _ _ _ _ site plan units feeds first number c.start.result
     (subst (λ (tx : TxRole). IsNewSender site plan number tx) (sym c.start.ensures) new)

@@ -1,8 +1,9 @@
--- The closing turn, the closed board and what the roles left are those of a session that is accounted for.
+-- The run is that of the closing turn, the closed board and what the roles left.
 use Rattle.std.proofs.Common.{◌∙◌, ◌++◌, Vec, Global, ap, sym}
 use Rattle.rx_feed.specs.declared.feed.Feed.{Feed}
-use Rattle.onvm_session.proofs.Finishing.{IsBoardOf, all_counted, all_finished, when_ok}
-use Rattle.onvm_session.proofs.PutTogether.{AreLeftOf, feeds_left}
+use Rattle.onvm_session.proofs.Finishing.{closed_run, when_ok}
+use Rattle.onvm_session.proofs.PutTogether.{feeds_left}
+use Rattle.onvm_session.specs.Closings.{AreLeftOf, IsBoardOf}
 use Rattle.onvm_session.proofs.manager.Manager.finish.Given.{Over}
 use Rattle.onvm_session.proofs.manager.Manager.finish.Goals as goal
 
@@ -41,14 +42,7 @@ left_of g c = record {
 
 pub returns-clause-done : goal.returns-clause-done
 returns-clause-done g c =
-    all_finished _ _ c.args.plan.now c.args.self c.closing_turn.new.self c.requires.manager c.args.now
-    c.make-leavings.result c.add_all.new.self c.close-closed.result
+    closed_run c.args.plan.now c.args.now c.args.self c.closing_turn.new.self c.make-leavings.result c.add_all.new.self
+    c.close-closed.result
     (when_ok c.closing_turn.result (sym c.is_err.ensures.value ∙ c.if-is_err.false) c.closing_turn.ensures.turn)
-    (board_of g c) (left_of g c) c.requires.place c.requires.some c.requires.now c.requires.over c.end.result.outcome c.end.ensures.run
-
-pub returns-clause-counted : goal.returns-clause-counted
-returns-clause-counted g c =
-    all_counted _ _ c.args.plan.now c.args.self c.closing_turn.new.self c.requires.manager c.args.now
-    c.make-leavings.result c.add_all.new.self c.close-closed.result
-    (when_ok c.closing_turn.result (sym c.is_err.ensures.value ∙ c.if-is_err.false) c.closing_turn.ensures.turn)
-    (board_of g c) (left_of g c) c.requires.over c.end.result.outcome c.end.ensures.run
+    (board_of g c) (left_of g c) c.end.result.outcome c.end.ensures.run

@@ -85,9 +85,9 @@ pub returns : goal.returns
 returns g c = record {
   roles = λ site of ranges rooms.
       let plan = c.args.plan.now in
-      let receivers = c.add_receivers.ensures.new site plan c.args.units of rooms.receivers in
-      let senders = c.add_senders.ensures.new site plan c.args.units c.args.feeds rooms.senders receivers in
-      let cores = c.add_cores.ensures.new site plan c.args.units c.args.feeds of rooms.cores c.requires.units
+      let receivers = c.add_receivers.ensures.new site plan c.args.units c.args.first of rooms.receivers in
+      let senders = c.add_senders.ensures.new site plan c.args.units c.args.feeds c.args.first rooms.senders receivers in
+      let cores = c.add_cores.ensures.new site plan c.args.units c.args.feeds c.args.first of rooms.cores c.requires.units
       c.hand_out.ensures senders in
       let all = c.add_ticker.ensures site plan c.args.units c.args.feeds of rooms.ticker cores in
       record { many = omega (arith, all.many, of.ports, of.transmit, of.cores); each = all.each };
