@@ -1,5 +1,5 @@
 -- Roles take seats, one after the other from the last role on, and leave them from role 0 on.
-use Rattle.std.proofs.Common.{◌≡◌, ◌≢◌, ℕ, zero, suc, ◌+◌, ◌<◌, ◌≤◌, true, List, [], ◌∷◌, ◌++◌, length, refl, sym, ◌∙◌, ap, subst, arith, append-nil, append_assoc, get_or-set_same, get_or-set_other, Some}
+use Rattle.std.proofs.Common.{◌≡◌, ◌≢◌, ℕ, zero, suc, ◌+◌, ◌<◌, ◌≤◌, true, false, List, [], ◌∷◌, ◌++◌, length, refl, sym, ◌∙◌, ap, subst, arith, append-nil, append_assoc, get_or-set_same, get_or-set_other, Some}
 use Rattle.std.specs.Prelude.{◌-◌, ◌==◌, slice_get, slice_index_or, slice_set}
 use Rattle.std.proofs.lemmas.Bool.{ne_eqb}
 use Rattle.std.proofs.lemmas.List.{length-append, length-set, length_push}
@@ -7,14 +7,14 @@ use Rattle.onvm_core.proofs.Lists.{if_unmet}
 use Rattle.onvm_core.specs.declared.step.Act.TheVariants.{Join, Split}
 use Rattle.onvm_core.specs.Logs.{Log}
 use Rattle.onvm_board.specs.Known.{is_split_in}
-use Rattle.onvm_board.specs.Tokens.{TokenView, kept_log, split_token, token_after, token_after_join}
+use Rattle.onvm_board.specs.Tokens.{BoardView, IsRoleOf, TokenView, kept_log, split_token, token_after, token_after_join}
 use Rattle.onvm_promises.specs.Answers.{is_complete}
 use Rattle.onvm_session.proofs.Growing.{got_below, some_inj}
 use Rattle.onvm_session.specs.declared.manager.Manager.{Manager}
 use Rattle.onvm_session.specs.declared.role.Role.{Role}
 use Rattle.onvm_session.specs.declared.seat.Seat.{Seat}
 use Rattle.onvm_session.specs.Boards.{token_after_splits}
-use Rattle.onvm_session.specs.Seats.{AreRolesOf, AreSeated, AreTokensJoined, IsSeated, OfEachSeat}
+use Rattle.onvm_session.specs.Seats.{AreJoinable, AreRolesOf, AreSeated, AreTokensJoined, IsSeated, OfEachSeat}
 use Rattle.onvm_session.specs.Sessions.{lengths_of}
 use Rattle.onvm_session.specs.Views.{joins, splits}
 
@@ -53,7 +53,7 @@ each_seat_more holds seat seats own each (suc at) other found =
     subst (λ (r : ℕ). holds r other) number (each at other found)
 
 -- of the seat with these before and behind it
-pub seat_here : {I N : Type 0} (holds : ℕ → Seat I N → Type 0) (seats left gone : List (Seat I N)) (seat : Seat I N)
+seat_here : {I N : Type 0} (holds : ℕ → Seat I N → Type 0) (seats left gone : List (Seat I N)) (seat : Seat I N)
     → seats ≡ left ++ seat ∷ gone → OfEachSeat holds seats → holds (length gone) seat
 seat_here holds seats left gone seat parts each =
     let many : length seats ≡ length left + length (seat ∷ gone) = ap length parts ∙ length-append left (seat ∷ gone) in
@@ -217,6 +217,18 @@ leaving_next {I} {N} seats left now roles after seat leaving last pushed = recor
   });
 }
 
+-- the token of the last seat that is left can be joined
+pub last_joinable : {I N : Type 0} (site : BoardView) (seats left now : List (Seat I N)) (roles : List (Role I N))
+    (seat : Seat I N) → AreJoinable site seats → AreLeaving seats left roles → left ≡ now ++ seat ∷ []
+    → IsRoleOf site seat.token × (seat.token.hand ≡ [])
+last_joinable site seats left now roles seat joinable leaving last =
+    let gone = leaving.gone in
+    let parts = parts_next seats left now gone seat leaving.parts last in
+    let many = ap length parts ∙ length-append now (seat ∷ gone) in
+    let is = seat_here (λ r other. (other.token.board ≡ site.id) × (other.token.role ≡ r) × (other.token.hand ≡ [])) seats
+    now gone seat parts joinable.each in
+    (record { board = is.0; below = omega (arith, many, is.1, joinable.many) }, is.2)
+
 -- where no seat is left, the roles are those of all seats
 none_gone : {I N : Type 0} (seats left gone : List (Seat I N)) → seats ≡ left ++ gone → length left ≡ 0 → gone ≡ seats
 none_gone seats [] gone parts none = sym parts
@@ -290,6 +302,7 @@ pub record AreJoining {I N : Type 0} (seats left : List (Seat I N)) (roles : Lis
 
 pub joining_begins : {I N : Type 0} (seats : List (Seat I N)) (roles : List (Role I N)) (old : TokenView) → roles ≡ []
     → AreJoining seats seats roles old old
+unfolding leaving_begins
 joining_begins {I} {N} seats roles old none =
     record { leaving = leaving_begins seats roles none; joined = joins_begin {I = I} {N = N} old }
 
