@@ -59,7 +59,7 @@ few_pulled (Some (Made g)) standing is =
     omega (arith, made, length-made_frames g.seed g.given, is.2, is.3)
 
 -- a session of either kind between turns, which may be closed at this moment
-record IsAtEnd {I N : Type 0} (acts : N → Acts) (state : N → Tree) (serial : Bool) (may_tell : ℕ → Type 0)
+pub record IsAtEnd {I N : Type 0} (acts : N → Acts) (state : N → Tree) (serial : Bool) (may_tell : ℕ → Type 0)
     (cost_may_take : ℕ → ℕ → Type 0) (began : ℕ) (units : List N) (now : ℕ) (setting : Setting)
     (manager : Manager I N) : Type 0 where
   pub underway : IsUnderway acts state serial may_tell cost_may_take began units setting manager

@@ -18,7 +18,7 @@ make_rounds-requires-clause-upto g c κs within r role found = (c.start-manager.
 
 pub finish-requires-clause-manager : goal.finish-requires-clause-manager
 finish-requires-clause-manager g c =
-    any_spans _ _ is_cost c.args.plan.now c.make_rounds.new.self c.in-Ok-make_rounds.ensures.manager
+    any_spans _ _ is_cost c.args.plan.now c.make_rounds.new.self c.in-Ok.ensures.manager
 
 pub finish-requires-clause-room : goal.finish-requires-clause-room
 finish-requires-clause-room g c =
@@ -46,23 +46,23 @@ hand_back-requires-in-Err-Fault g c = record {
       (tended_first _ _ _ _ _ _ _ c.args.units 0 c.start-manager.result c.start-manager.ensures))) c.requires.feeds;
 }
 
-pub returns-in-Ok-make_rounds-clause-handed_back : goal.returns-in-Ok-make_rounds-clause-handed_back
-returns-in-Ok-make_rounds-clause-handed_back g c =
+pub returns-in-Ok-clause-handed_back : goal.returns-in-Ok-clause-handed_back
+returns-in-Ok-clause-handed_back g c =
     back_as _ _ _ c.args.plan.now c.args.feeds c.make_rounds.new.self
     (tended_then _ _ _ _ _ c.start-manager.result c.make_rounds.new.self c.make_rounds.ensures.grow
     (tended_first _ _ _ _ _ _ _ c.args.units 0 c.start-manager.result c.start-manager.ensures)) c.requires.feeds
     c.finish.result.feeds c.finish.ensures.feeds
 
-pub returns-in-Ok-make_rounds-clause-stands : goal.returns-in-Ok-make_rounds-clause-stands
-returns-in-Ok-make_rounds-clause-stands g c =
+pub returns-in-Ok-clause-stands : goal.returns-in-Ok-clause-stands
+returns-in-Ok-clause-stands g c =
     stand_as _ _ _ c.args.plan.now c.args.feeds c.make_rounds.new.self
     (tended_then _ _ _ _ _ c.start-manager.result c.make_rounds.new.self c.make_rounds.ensures.grow
     (tended_first _ _ _ _ _ _ _ c.args.units 0 c.start-manager.result c.start-manager.ensures)) c.requires.feeds
     c.finish.result.feeds c.finish.ensures.feeds
 
-pub returns-in-Ok-make_rounds-clause-done : goal.returns-in-Ok-make_rounds-clause-done
-returns-in-Ok-make_rounds-clause-done g c =
-    let made = c.in-Ok-make_rounds.ensures in
+pub returns-in-Ok-clause-done : goal.returns-in-Ok-clause-done
+returns-in-Ok-clause-done g c =
+    let made = c.in-Ok.ensures in
     rounds_done _ _ _ c.args.plan.now c.args.feeds c.make_rounds.new.self
     (tended_then _ _ _ _ _ c.start-manager.result c.make_rounds.new.self c.make_rounds.ensures.grow
     (tended_first _ _ _ _ _ _ _ c.args.units 0 c.start-manager.result c.start-manager.ensures)) c.requires.feeds _ _
