@@ -25,6 +25,7 @@ pub mod LeftLists
 pub mod Listing
 pub mod ManagerGoing
 pub mod ManagerOver
+pub mod ManagerPhases
 pub mod ManagerRounds
 pub mod ManagerRuns
 pub mod ManagerTokens
@@ -42,6 +43,7 @@ pub mod OverloadTick
 pub mod OwnRuns
 pub mod Passing
 pub mod Peeling
+pub mod PhaseGoing
 pub mod PhaseSeats
 pub mod PhaseTokens
 pub mod Phasing
