@@ -123,12 +123,7 @@ fn replay<R: AllocGlobal + Threads + Wait + time::Clock + Sync, H: Host, C: Cloc
 }
 
 // The run of a command.
-fn replay_command<
-    R: AllocGlobal + Threads + Wait + time::Clock + Sync,
-    H: Host,
-    C: Clock,
-    G: Gate,
->(
+fn replay_command<R: AllocGlobal + Threads + Wait + time::Clock + Sync, H: Host, C: Clock, G: Gate>(
     rt: &R,
     host: &mut H,
     command: &Command,
@@ -160,9 +155,7 @@ fn replay_command<
     };
     let captures = command.captures.as_slice();
     let serial = command.options.serial;
-    let run = replay_captures(
-        rt, alloc, host, captures, &plan, units, clock, gate, serial,
-    )?;
+    let run = replay_captures(rt, alloc, host, captures, &plan, units, clock, gate, serial)?;
     let Ok(report) = report_of(alloc, &plan, &run, &command.options) else {
         return Err(Fault::Memory);
     };

@@ -17,6 +17,7 @@ const CORE_1: u32 = 3;
 const LOOKS: u32 = 200_000_000;
 
 // What is known of a role: whether it came, and whether it saw that the other one had.
+#[derive(Drop)]
 struct Visit {
     came: AtomicBool,
     met: AtomicBool,
@@ -47,6 +48,7 @@ impl Visit {
 
 /// Two core roles meet there at their first turns, unless one has ended its pass before the other
 /// begins.
+#[derive(Drop)]
 pub struct TwoRoles {
     first: Visit,
     second: Visit,
