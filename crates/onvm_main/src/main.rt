@@ -10,7 +10,8 @@ use std::alloc::Global;
 use std::io::{self, ErrorKind};
 use std::process::ExitCode;
 use std::sync::Wait;
-use std::{env, mem};
+use std::thread::Threads;
+use std::{env, mem, time};
 
 fn main(rt: HostRuntime) -> ExitCode {
     let answer = match words(&rt) {
@@ -36,8 +37,8 @@ fn words(rt: &HostRuntime) -> io::Result<Vec<String>> {
 }
 
 // Runs the words over real files, with the guests that a chain file may name. `wait` is the same
-// runtime: only `main` knows that it may wait.
-fn replay<R: AllocGlobal + Wait>(
+// runtime: only `main` knows that it may wait, and start threads.
+fn replay<R: AllocGlobal + Threads + Wait + time::Clock + Sync>(
     rt: &HostRuntime,
     wait: &R,
     words: &[String],

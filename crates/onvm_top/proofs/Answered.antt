@@ -203,17 +203,18 @@ module _ (words guests : List (List ℕ)) (told : Option Entries) where
       let Tells : Fault → Type 0 = λ f. IsTrueStatus words guests told told_now (status_of f) in
       subst Tells (sym fault_is) accepted
 
-module _ {V : Type 0} {F : V → Type 0} (guest_acts : Guest V F → Acts) (guest_state : Guest V F → Tree)
+module _ {V : Type 0} {F : V → Type 0} (may_tell : ℕ → Type 0) (cost_may_take : ℕ → ℕ → Type 0)
+    (guest_acts : Guest V F → Acts) (guest_state : Guest V F → Tree)
     (words : List (List ℕ)) (guests : List (Guest V F)) where
   -- the command of a replayed run, its chain file and its captures were accepted
   accepted_of : (told : Option Entries) (command : Command) (plan : Plan) (deeds : List Deed) (run : Run)
-      → IsReplayed guest_acts guest_state words guests told command plan deeds run
+      → IsReplayed may_tell cost_may_take guest_acts guest_state words guests told command plan deeds run
       → IsAccepted words (names_of guests) told
   accepted_of told command plan deeds run replayed =
       (command, replayed.is_command, plan, replayed.plan_is, replayed.calls.4.frames, replayed.calls.4.good)
 
   answer_of_late : (told told_now : Option Entries) (said : List ℕ) (deeds : List Deed) (fault : Fault)
-      → IsStoppedLate guest_acts guest_state words guests told told_now said deeds fault
+      → IsStoppedLate may_tell cost_may_take guest_acts guest_state words guests told told_now said deeds fault
       → IsTrueStatus words (names_of guests) told told_now (status_of fault)
   answer_of_late told told_now said deeds fault late =
       let Tells : Fault → Type 0 = λ f. IsTrueStatus words (names_of guests) told told_now (status_of f) in
@@ -226,7 +227,7 @@ module _ {V : Type 0} {F : V → Type 0} (guest_acts : Guest V F → Acts) (gues
 
   -- a fault that stops a run tells what its status tells
   pub IsTrueStatus-stopped : (told told_now : Option Entries) (said : List ℕ) (deeds : List Deed) (fault : Fault)
-      → IsStopped guest_acts guest_state words guests told told_now said deeds fault
+      → IsStopped may_tell cost_may_take guest_acts guest_state words guests told told_now said deeds fault
       → IsTrueStatus words (names_of guests) told told_now (status_of fault)
   IsTrueStatus-stopped told told_now said deeds fault (inl (same, nothing_said, early)) =
       let Now : Option Entries → Type 0 = λ now. IsTrueStatus words (names_of guests) told now (status_of fault) in
@@ -235,7 +236,7 @@ module _ {V : Type 0} {F : V → Type 0} (guest_acts : Guest V F → Acts) (gues
 
   -- of a run that is done its input was accepted
   pub IsTrueStatus-done : (told told_now : Option Entries) (said said_now : Option (List ℕ)) (deeds : List Deed) (run : Run)
-      → IsDone guest_acts guest_state words guests told told_now said said_now deeds run
+      → IsDone may_tell cost_may_take guest_acts guest_state words guests told told_now said said_now deeds run
       → IsTrueStatus words (names_of guests) told told_now status.Done
   IsTrueStatus-done told told_now said said_now deeds run done =
       accepted_of told done.command done.plan done.read run done.replayed

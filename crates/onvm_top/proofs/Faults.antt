@@ -204,10 +204,11 @@ blames_output name text report told told_now said deeds fault
     let Of : Fault → Type 0 = λ f. Blames (status_of f) deeds in
     subst Of (sym fault_is) (blames_rest status.Write first rest deeds split (faults_unsaid _ rest unsaid))
 
-module _ {V : Type 0} {F : V → Type 0} (guest_acts : Guest V F → Acts) (guest_state : Guest V F → Tree)
+module _ {V : Type 0} {F : V → Type 0} (may_tell : ℕ → Type 0) (cost_may_take : ℕ → ℕ → Type 0)
+    (guest_acts : Guest V F → Acts) (guest_state : Guest V F → Tree)
     (words : List (List ℕ)) (guests : List (Guest V F)) where
   blames_late : (told told_now : Option Entries) (said : List ℕ) (deeds : List Deed) (fault : Fault)
-      → IsStoppedLate guest_acts guest_state words guests told told_now said deeds fault
+      → IsStoppedLate may_tell cost_may_take guest_acts guest_state words guests told told_now said deeds fault
       → Blames (status_of fault) deeds
   blames_late told told_now said deeds fault late =
       let Of : Fault → Type 0 = λ f. Blames (status_of f) deeds in
@@ -219,7 +220,7 @@ module _ {V : Type 0} {F : V → Type 0} (guest_acts : Guest V F → Acts) (gues
       ]
 
   blames_stopped : (told told_now : Option Entries) (said : List ℕ) (deeds : List Deed) (fault : Fault)
-      → IsStopped guest_acts guest_state words guests told told_now said deeds fault
+      → IsStopped may_tell cost_may_take guest_acts guest_state words guests told told_now said deeds fault
       → Blames (status_of fault) deeds
   blames_stopped told told_now said deeds fault (inl (same, nothing_said, early)) =
       blames_early words (names_of guests) told deeds fault early
@@ -233,7 +234,7 @@ module _ {V : Type 0} {F : V → Type 0} (guest_acts : Guest V F → Acts) (gues
 
   -- a stopped run whose status blames a call has a fault more
   pub faults_of-stopped : (told told_now : Option Entries) (said said_now : Option (List ℕ)) (before now : List Deed)
-      (answer : Status) → IsStoppedRun guest_acts guest_state words guests told told_now said said_now before now answer
+      (answer : Status) → IsStoppedRun may_tell cost_may_take guest_acts guest_state words guests told told_now said said_now before now answer
       → HasFault answer
       → faults_of before < faults_of now
   faults_of-stopped told told_now said said_now before now answer run blamed =

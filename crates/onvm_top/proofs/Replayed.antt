@@ -1,5 +1,5 @@
 -- A session of captures, from their opening to their shutting: done, or stopped.
-use Rattle.std.proofs.Common.{◌≡◌, ℕ, ◌<◌, ◌≤◌, arith, true, List, ◌++◌, length, refl, sym, subst, Some, Option, Result, Ok, Err, inl, inr}
+use Rattle.std.proofs.Common.{◌≡◌, ℕ, ◌<◌, ◌≤◌, arith, Bool, true, List, ◌++◌, length, refl, sym, subst, Some, Option, Result, Ok, Err, inl, inr}
 use Rattle.std.specs.Prelude.{IfErr, IfOk}
 use Rattle.std.proofs.lemmas.Bool.{cases_lt}
 use Rattle.onvm_base.specs.declared.ids.PortId.{PortId}
@@ -38,10 +38,11 @@ module _ {I : Type 0} (name_of : I → List ℕ) (left_of : I → Option (List �
     (few : length captures ≤ plan.ports) (before mid now : List Deed)
     (opened : Adds before mid (Opens captures)) (shut : now ≡ mid ++ shuts_of name_of left_of takes_of back) where
   -- each capture is good, and the run is of their frames
-  pub replay_done : {S : Type 0} (acts : ℕ → S → Handling → S → Type 0) (start : ℕ → S) (run : Run)
-      → IsDone name_of left_of takes_of acts start plan feeds back run
-      → Adds before now (λ deeds. IsReplayOf acts start told plan captures deeds run)
-  replay_done acts start run done =
+  pub replay_done : {S : Type 0} (serial : Bool) (may_tell : ℕ → Type 0) (cost_may_take : ℕ → ℕ → Type 0)
+      (acts : ℕ → S → Handling → S → Type 0) (start : ℕ → S) (run : Run)
+      → IsDone name_of left_of takes_of serial may_tell cost_may_take acts start plan feeds back run
+      → Adds before now (λ deeds. IsReplayOf serial may_tell cost_may_take acts start told plan captures deeds run)
+  replay_done serial may_tell cost_may_take acts start run done =
       let reads = reads_to name_of left_of takes_of told done.standings before mid now captures feeds back are handed
       (λ port below. done.stand port (omega (arith, below, few))) opened shut in (
         reads.0,

@@ -1,6 +1,6 @@
 -- A run put together from its parts: up to where it was done, and up to where it was stopped.
-use Rattle.std.proofs.Common.{◌≡◌, ◌≤◌, ◌∙◌, sym, ap, subst, refl, inl, inr, ℕ, List, [], ◌++◌, length, Option, None, Result, Ok, Err, append_assoc}
-use Rattle.std.specs.Prelude.{IfNone, OnErr, OnOk}
+use Rattle.std.proofs.Common.{◌≡◌, ◌≤◌, ◌∙◌, sym, ap, subst, refl, inl, inr, ℕ, Bool, List, [], ◌++◌, length, Option, None, Result, Ok, Err, append_assoc}
+use Rattle.std.specs.Prelude.{IfNone, IfOk, OnErr, OnOk}
 use Rattle.std.specs.Io.KnownBytes.{Appends}
 use Rattle.std.proofs.lemmas.List.{append-nil}
 use Rattle.onvm_base.specs.declared.plan.Plan.{Plan}
@@ -62,27 +62,29 @@ IfNone-is {A} option P is holds =
     let Q : Option A → Type 0 = λ o. IfNone o P in
     subst Q is holds
 
-module _ {V : Type 0} {F : V → Type 0} (guest_acts : Guest V F → Acts) (guest_state : Guest V F → Tree)
+module _ {V : Type 0} {F : V → Type 0} (may_tell : ℕ → Type 0) (cost_may_take : ℕ → ℕ → Type 0)
+    (guest_acts : Guest V F → Acts) (guest_state : Guest V F → Tree)
     (guests : List (Guest V F)) where
   -- the replay of captures by these units
-  abbrev pub Replays : (told : Option Entries) → Plan → List CaptureWord → List (UnitOf (Guest V F)) → Run → List Deed → Type 0
-  Replays told plan captures units run deeds =
-      IsReplayOf (acts_by (acts_of guest_acts) (state_of guest_state) units)
+  abbrev pub Replays : Bool → (told : Option Entries) → Plan → List CaptureWord → List (UnitOf (Guest V F)) → Run → List Deed
+      → Type 0
+  Replays serial told plan captures units run deeds =
+      IsReplayOf serial may_tell cost_may_take (acts_by (acts_of guest_acts) (state_of guest_state) units)
       (start_by (acts_of guest_acts) (state_of guest_state) units) told plan captures deeds run
 
   -- what holds of whichever words are the command
   abbrev pub Replayed : (told : Option Entries) → Command → Plan → Run → List Deed → Type 0
   Replayed told command plan run deeds = (words : List (List ℕ)) → IsCommand words command
-      → IsReplayed guest_acts guest_state words guests told command plan deeds run
+      → IsReplayed may_tell cost_may_take guest_acts guest_state words guests told command plan deeds run
 
   abbrev pub Done : (told told_now : Option Entries) (said said_now : Option (List ℕ)) → Command → Run → List Deed → Type 0
   Done told told_now said said_now command run deeds = (words : List (List ℕ)) → IsCommand words command
-      → IsDone guest_acts guest_state words guests told told_now said said_now deeds run
+      → IsDone may_tell cost_may_take guest_acts guest_state words guests told told_now said said_now deeds run
 
   abbrev pub Stopped : (told told_now : Option Entries) (said said_now : Option (List ℕ)) → Command → Fault → List Deed → Type 0
   Stopped told told_now said said_now command fault deeds = (front : List ℕ) × Appends said said_now front
       × ((words : List (List ℕ)) → IsCommand words command
-      → IsStopped guest_acts guest_state words guests told told_now front deeds fault)
+      → IsStopped may_tell cost_may_take guest_acts guest_state words guests told told_now front deeds fault)
 
   -- the chain file was read, and then the captures were replayed
   pub Adds-Replayed : (told read : Option Entries) (before between now : List Deed) (command : Command) (plan : Plan)
@@ -91,15 +93,15 @@ module _ {V : Type 0} {F : V → Type 0} (guest_acts : Guest V F → Acts) (gues
       → OnTold told (λ files. HasPlan command names files plan)
       → length command.captures.items ≤ plan.ports → AreUnits plan.functions guests units
       → Adds before between (ReadsChain command.chain.now)
-      → Adds between now (Replays read plan captures units run)
+      → Adds between now (Replays command.options.serial read plan captures units run)
       → Adds before now (Replayed told command plan run)
   Adds-Replayed told read before between now command plan units run names captures same named those has ports are chain
       replays =
       let Has : List (List ℕ) → Type 0 = λ ns. OnTold told (λ files. HasPlan command ns files plan) in
-      let Of : Option Entries → Type 0 = λ files. Replays files plan captures units run replays.0 in
-      let From : List CaptureWord → Type 0 = λ cs. Replays told plan cs units run replays.0 in
+      let Of : Option Entries → Type 0 = λ files. Replays command.options.serial files plan captures units run replays.0 in
+      let From : List CaptureWord → Type 0 = λ cs. Replays command.options.serial told plan cs units run replays.0 in
       let calls = Adds-Then before between now (ReadsChain command.chain.now)
-      (Replays told plan command.captures.items units run) chain
+      (Replays command.options.serial told plan command.captures.items units run) chain
       (replays.0, replays.1, subst From those (subst Of same replays.2)) in (
         calls.0,
         calls.1,
@@ -144,6 +146,15 @@ module _ {V : Type 0} {F : V → Type 0} (guest_acts : Guest V F → Acts) (gues
               left = subst Says unsaid (subst Of same left.2);
             },
       )
+
+  -- a run that is done for whichever words are its command is done for these
+  pub Adds-words : (told told_now : Option Entries) (said said_now : Option (List ℕ)) (before now : List Deed)
+      (command : Command) (words : List (List ℕ)) (result : Result Run Fault) → IsCommand words command
+      → IfOk result (λ run. Adds before now (Done told told_now said said_now command run))
+      → IfOk result (λ run. Adds before now (λ deeds.
+      IsDone may_tell cost_may_take guest_acts guest_state words guests told told_now said said_now deeds run))
+  Adds-words told told_now said said_now before now command words (Ok run) is done = (done.0, done.1, done.2 words is)
+  Adds-words told told_now said said_now before now command words (Err fault) is done = tt
 
   -- Where it was stopped
 
@@ -265,13 +276,13 @@ module _ {V : Type 0} {F : V → Type 0} (guest_acts : Guest V F → Acts) (gues
       (said between said_now : Option (List ℕ)) (before at now : List Deed) (fault : Fault) (answer : Status) (line : List ℕ)
       → told_now ≡ read → answer ≡ status_of fault → line ≡ line_of fault
       → Adds before at (λ deeds. (front : List ℕ) × Appends said between front
-      × IsStopped guest_acts guest_state words guests told read front deeds fault)
+      × IsStopped may_tell cost_may_take guest_acts guest_state words guests told read front deeds fault)
       → SaysOnce between said_now at now line
-      → IsStoppedRun guest_acts guest_state words guests told told_now said said_now before now answer
+      → IsStoppedRun may_tell cost_may_take guest_acts guest_state words guests told told_now said said_now before now answer
   IsStoppedRun-line words told read told_now said between said_now before at now fault answer line same answered lined
       stops says =
       let Now : Option Entries → Type 0 = λ files.
-      IsStopped guest_acts guest_state words guests told files stops.2.0 stops.0 fault in
+      IsStopped may_tell cost_may_take guest_acts guest_state words guests told files stops.2.0 stops.0 fault in
       let At : List Deed → Type 0 = λ deeds. SaysOnce between said_now deeds now line in
       let Line : List ℕ → Type 0 = λ t. SaysOnce between said_now (before ++ stops.0) now t in
       record {

@@ -1,5 +1,5 @@
 -- A run of a command, of which the headline holds, and what it leaves.
-use Rattle.std.specs.Prelude.{◌≡◌, ◌≢◌, ◌≤◌, ◌<◌, ℕ, true, List, ◌++◌, length, map, Option, Some}
+use Rattle.std.specs.Prelude.{◌≡◌, ◌≢◌, ◌≤◌, ◌<◌, ℕ, Bool, true, List, ◌++◌, length, map, Option, Some}
 use Rattle.onvm_base.specs.declared.frame.Frame.{Frame}
 use Rattle.onvm_base.specs.declared.frame.SentFrame.{SentFrame}
 use Rattle.onvm_base.specs.declared.plan.Plan.{Plan}
@@ -15,14 +15,13 @@ use Rattle.nf_api.specs.declared.guest.Guest.{Guest}
 use Rattle.nf_catalog.specs.Units.{AreUnits, acts_of, state_of}
 use Rattle.nf_catalog.specs.declared.unit.UnitOf.{UnitOf}
 use Rattle.onvm_promises.specs.Entries.{IsRunOf}
-use Rattle.onvm_promises.specs.Sampling.{is_cost}
 use Rattle.rx_feed.specs.Standing.{Standing}
 use Rattle.onvm_report.specs.Report.{IsReport}
 use Rattle.onvm_report.specs.declared.options.Options.{Options}
 use Rattle.onvm_report.specs.declared.printed.Printed.{Printed}
 use Rattle.onvm_session.specs.Accounts.{IsAccounted}
 use Rattle.onvm_session.specs.RoleStates.{acts_by, start_by}
-use Rattle.onvm_session.specs.Runs.{any_moment, view_of_run}
+use Rattle.onvm_session.specs.Runs.{taken_by, told_by, view_of_run}
 use Rattle.onvm_session.specs.declared.run.Run.{Run}
 use Rattle.command_words.specs.Commands.{IsCommand}
 use Rattle.command_words.specs.declared.capture.CaptureWord.{CaptureWord}
@@ -58,12 +57,14 @@ pub record IsLeft (name text report : List ℕ) (told told_now : Option Entries)
   pub output : Leaves name text told told_now
   pub appended : AppendsAll said said_now says report
 
--- the headline holds of a run of this plan, these functions and the frames of each port. Some setting is one of them
-pub record IsAccount {S : Type 0} (acts : ℕ → S → Handling → S → Type 0) (start : ℕ → S) (plan : Plan)
-    (frames : ℕ → List Frame) (run : Run) : Type 0 where
+-- the headline holds of a run of this plan, these functions and the frames of each port. Some setting is one of them. A clock
+-- may tell these moments, and may take these spans for a cost; a serial run doesn't ask it
+pub record IsAccount {S : Type 0} (serial : Bool) (may_tell : ℕ → Type 0) (cost_may_take : ℕ → ℕ → Type 0)
+    (acts : ℕ → S → Handling → S → Type 0) (start : ℕ → S) (plan : Plan) (frames : ℕ → List Frame) (run : Run)
+    : Type 0 where
   pub run_is : (setting : Setting) × IsRunOf plan frames setting
   pub accounted : (setting : Setting) → IsRunOf plan frames setting
-      → IsAccounted true any_moment is_cost acts start setting (view_of_run run)
+      → IsAccounted serial (told_by serial may_tell) (taken_by serial cost_may_take) acts start setting (view_of_run run)
 
 -- what is printed is the run's, with as many frames as it has records
 pub record IsPrintOf (run : Run) (printed : Printed) : Type 0 where
@@ -79,11 +80,12 @@ IsReportOf plan run options text =
     (printed : Printed) × IsPrintOf run printed × IsReport plan.functions printed options text
 
 -- the captures were opened, read to their ends and shut, and the headline holds of this run of their frames
-pub record IsReplayOf {S : Type 0} (acts : ℕ → S → Handling → S → Type 0) (start : ℕ → S) (told : Option Entries) (plan : Plan)
+pub record IsReplayOf {S : Type 0} (serial : Bool) (may_tell : ℕ → Type 0) (cost_may_take : ℕ → ℕ → Type 0)
+    (acts : ℕ → S → Handling → S → Type 0) (start : ℕ → S) (told : Option Entries) (plan : Plan)
     (captures : List CaptureWord) (deeds : List Deed) (run : Run) : Type 0 where
   pub frames : ℕ → List Frame
   pub good : AreGood told captures frames
-  pub account : IsAccount acts start plan frames run
+  pub account : IsAccount serial may_tell cost_may_take acts start plan frames run
   -- there are as many records as frames
   pub counted : (setting : Setting) → IsRunOf plan frames setting → length run.records ≡ length setting.entries
   pub standings : ℕ → Standing
@@ -92,10 +94,11 @@ pub record IsReplayOf {S : Type 0} (acts : ℕ → S → Handling → S → Type
   pub pulled : (port : ℕ) → port < length captures → frames port ≡ (standings port).pulled
   pub calls : ReadsTo told standings captures deeds
 
--- A guest does this, and has this state
-module _ {V : Type 0} {F : V → Type 0} (guest_acts : Guest V F → Acts) (guest_state : Guest V F → Tree)
+-- The clock may tell these moments and take these spans for a cost, and a guest does this and has this state
+module _ {V : Type 0} {F : V → Type 0} (may_tell : ℕ → Type 0) (cost_may_take : ℕ → ℕ → Type 0)
+    (guest_acts : Guest V F → Acts) (guest_state : Guest V F → Tree)
     (words : List (List ℕ)) (guests : List (Guest V F)) where
-  -- the chain file was read as this plan, and its captures were replayed by this run
+  -- the chain file was read as this plan, and its captures were replayed by this run, serially where the command says so
   pub record IsReplayed (told : Option Entries) (command : Command) (plan : Plan) (deeds : List Deed) (run : Run) : Type 0 where
     pub is_command : IsCommand words command
     pub plan_is : OnTold told (λ files. HasPlan command (names_of guests) files plan)
@@ -103,7 +106,8 @@ module _ {V : Type 0} {F : V → Type 0} (guest_acts : Guest V F → Acts) (gues
     pub units : List (UnitOf (Guest V F))
     pub units_are : AreUnits plan.functions guests units
     pub calls : Then (ReadsChain command.chain.now)
-        (λ rest. IsReplayOf (acts_by (acts_of guest_acts) (state_of guest_state) units)
+        (λ rest. IsReplayOf command.options.serial may_tell cost_may_take
+        (acts_by (acts_of guest_acts) (state_of guest_state) units)
         (start_by (acts_of guest_acts) (state_of guest_state) units) told plan command.captures.items rest run) deeds
 
   -- and the output holds what was sent, and the report of the run was said

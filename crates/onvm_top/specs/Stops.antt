@@ -82,8 +82,9 @@ IsStoppedEarly words guests told deeds fault =
     × ((plan : Plan) × OnTold told (λ files. HasPlan command guests files plan))
     × Then (ReadsChain command.chain.now) (λ rest. StopsAtCaptures command.captures.items told rest fault) deeds)
 
--- A guest does this, and has this state
-module _ {V : Type 0} {F : V → Type 0} (guest_acts : Guest V F → Acts) (guest_state : Guest V F → Tree)
+-- The clock may tell these moments and take these spans for a cost, and a guest does this and has this state
+module _ {V : Type 0} {F : V → Type 0} (may_tell : ℕ → Type 0) (cost_may_take : ℕ → ℕ → Type 0)
+    (guest_acts : Guest V F → Acts) (guest_state : Guest V F → Tree)
     (words : List (List ℕ)) (guests : List (Guest V F)) where
   -- behind the run, of which the headline holds. Without memory for its report nothing is said of it
   pub record IsStoppedLate (told told_now : Option Entries) (said : List ℕ) (deeds : List Deed) (fault : Fault) : Type 0 where
@@ -93,7 +94,7 @@ module _ {V : Type 0} {F : V → Type 0} (guest_acts : Guest V F → Acts) (gues
     pub read : List Deed
     pub writes : List Deed
     pub in_order : deeds ≡ read ++ writes
-    pub replayed : IsReplayed guest_acts guest_state words guests told command plan read run
+    pub replayed : IsReplayed may_tell cost_may_take guest_acts guest_state words guests told command plan read run
     pub stops : ((fault ≡ Memory) × (writes ≡ []) × (told_now ≡ told) × (said ≡ []))
         ⊎ ((report : List ℕ) × IsReportOf plan run command.options report
         × StopsAtOutput command.output.now (capture_text run.sent) report told told_now said writes fault)

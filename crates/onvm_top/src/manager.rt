@@ -23,6 +23,8 @@ use onvm_base::Status;
 use onvm_host::{Clock, Gate, Host};
 use onvm_session::Run;
 use std::sync::Wait;
+use std::thread::Threads;
+use std::time;
 
 /// How a run ended, and what it left where it is done.
 #[derive(Drop)]
@@ -35,13 +37,15 @@ pub struct Finish {
 /// that a chain file may name. What was sent is written to the output, and then a report is said; what
 /// stops a run is said in one line.
 ///
-/// The roles take turns, with `--serial` and without it. Neither clock nor gate is used yet.
-pub fn run<R: AllocGlobal + Wait, H: Host, C: Clock, G: Gate>(
+/// With `--serial` the roles take turns, round after round, at moments that are made up, and neither
+/// clock nor gate is used. Without it each role makes its passes in a thread of its own, where one can
+/// be had: before each pass the gate is called, and then the clock is read for the pass's moment.
+pub fn run<R: AllocGlobal + Threads + Wait + time::Clock + Sync, H: Host, C: Clock, G: Gate>(
     rt: &R,
     words: &[String],
     host: &mut H,
-    _clock: &C,
-    _gate: &G,
+    clock: &C,
+    gate: &G,
     guests: Vec<Guest>,
 ) -> Finish
     requires names { MayReplay (H.may_open host.old) (H.may_create host.old)
@@ -53,7 +57,8 @@ pub fn run<R: AllocGlobal + Wait, H: Host, C: Clock, G: Gate>(
     // The headline, of the run that is handed back: after which calls of the host, of which frames,
     // and what it wrote and said.
     ensures done { IfSome result.run (λ run. Adds (H.deeds host.old) (H.deeds host.new)
-        (λ deeds. IsDone ⟦<Guest as NetFunction>⟧.acts ⟦<Guest as NetFunction>⟧.state
+        (λ deeds. IsDone (C.may_be_now clock.now) (C.may_span clock.now)
+        ⟦<Guest as NetFunction>⟧.acts ⟦<Guest as NetFunction>⟧.state
         (map string_bytes words.now) guests.items
         (H.files host.old) (H.files host.new) (H.said host.old) (H.said host.new) deeds run)) }
 
@@ -66,12 +71,13 @@ pub fn run<R: AllocGlobal + Wait, H: Host, C: Clock, G: Gate>(
 
     // What stopped any other run, after which calls, and that its line was said behind them.
     ensures stopped { result.status ≢ Status.Done
-        → IsStoppedRun ⟦<Guest as NetFunction>⟧.acts ⟦<Guest as NetFunction>⟧.state
+        → IsStoppedRun (C.may_be_now clock.now) (C.may_span clock.now)
+        ⟦<Guest as NetFunction>⟧.acts ⟦<Guest as NetFunction>⟧.state
         (map string_bytes words.now) guests.items
         (H.files host.old) (H.files host.new) (H.said host.old) (H.said host.new)
         (H.deeds host.old) (H.deeds host.new) result.status }
 {
-    match replay(rt, words, host, guests) {
+    match replay(rt, words, host, clock, gate, guests) {
         Ok(run) => Finish {
             status: Status::Done,
             run: Some(run),
@@ -87,36 +93,42 @@ pub fn run<R: AllocGlobal + Wait, H: Host, C: Clock, G: Gate>(
 }
 
 // The run without its fault line.
-fn replay<R: AllocGlobal + Wait, H: Host>(
+fn replay<R: AllocGlobal + Threads + Wait + time::Clock + Sync, H: Host, C: Clock, G: Gate>(
     rt: &R,
     words: &[String],
     host: &mut H,
+    clock: &C,
+    gate: &G,
     guests: Vec<Guest>,
 ) -> Result<Run, Fault>
     requires names { MayReplay (H.may_open host.old) (H.may_create host.old)
         (map string_bytes words.now) }
     ensures done { IfOk result (λ run. Adds (H.deeds host.old) (H.deeds host.new)
-        (λ deeds. IsDone ⟦<Guest as NetFunction>⟧.acts ⟦<Guest as NetFunction>⟧.state
+        (λ deeds. IsDone (C.may_be_now clock.now) (C.may_span clock.now)
+        ⟦<Guest as NetFunction>⟧.acts ⟦<Guest as NetFunction>⟧.state
         (map string_bytes words.now) guests.items
         (H.files host.old) (H.files host.new) (H.said host.old) (H.said host.new) deeds run)) }
     ensures stopped { IfErr result (λ fault. Adds (H.deeds host.old) (H.deeds host.new)
         (λ deeds. (front : List ℕ) × Appends (H.said host.old) (H.said host.new) front
-        × IsStopped ⟦<Guest as NetFunction>⟧.acts ⟦<Guest as NetFunction>⟧.state
+        × IsStopped (C.may_be_now clock.now) (C.may_span clock.now)
+        ⟦<Guest as NetFunction>⟧.acts ⟦<Guest as NetFunction>⟧.state
         (map string_bytes words.now) guests.items
         (H.files host.old) (H.files host.new) front deeds fault)) }
 {
     match command_words::read(rt.alloc(), words) {
-        Ok(Some(command)) => replay_command(rt, host, &command, guests),
+        Ok(Some(command)) => replay_command(rt, host, &command, clock, gate, guests),
         Ok(None) => Err(Fault::Words),
         Err(_) => Err(Fault::Memory),
     }
 }
 
 // The run of a command.
-fn replay_command<R: AllocGlobal + Wait, H: Host>(
+fn replay_command<R: AllocGlobal + Threads + Wait + time::Clock + Sync, H: Host, C: Clock, G: Gate>(
     rt: &R,
     host: &mut H,
     command: &Command,
+    clock: &C,
+    gate: &G,
     guests: Vec<Guest>,
 ) -> Result<Run, Fault>
     requires chain { H.may_open host.old command.now.chain.now }
@@ -126,12 +138,14 @@ fn replay_command<R: AllocGlobal + Wait, H: Host>(
     requires few { length command.now.captures.items ≤ MAX_PORTS }
     ensures done { IfOk result (λ run. Adds (H.deeds host.old) (H.deeds host.new)
         (λ deeds. (texts : List (List ℕ)) → IsCommand texts command.now
-        → IsDone ⟦<Guest as NetFunction>⟧.acts ⟦<Guest as NetFunction>⟧.state texts guests.items
+        → IsDone (C.may_be_now clock.now) (C.may_span clock.now)
+        ⟦<Guest as NetFunction>⟧.acts ⟦<Guest as NetFunction>⟧.state texts guests.items
         (H.files host.old) (H.files host.new) (H.said host.old) (H.said host.new) deeds run)) }
     ensures stopped { IfErr result (λ fault. Adds (H.deeds host.old) (H.deeds host.new)
         (λ deeds. (front : List ℕ) × Appends (H.said host.old) (H.said host.new) front
         × ((texts : List (List ℕ)) → IsCommand texts command.now
-        → IsStopped ⟦<Guest as NetFunction>⟧.acts ⟦<Guest as NetFunction>⟧.state texts guests.items
+        → IsStopped (C.may_be_now clock.now) (C.may_span clock.now)
+        ⟦<Guest as NetFunction>⟧.acts ⟦<Guest as NetFunction>⟧.state texts guests.items
         (H.files host.old) (H.files host.new) front deeds fault))) }
 {
     let alloc = rt.alloc();
@@ -140,7 +154,8 @@ fn replay_command<R: AllocGlobal + Wait, H: Host>(
         return Err(Fault::Memory);
     };
     let captures = command.captures.as_slice();
-    let run = replay_captures(rt, alloc, host, captures, &plan, units)?;
+    let serial = command.options.serial;
+    let run = replay_captures(rt, alloc, host, captures, &plan, units, clock, gate, serial)?;
     let Ok(report) = report_of(alloc, &plan, &run, &command.options) else {
         return Err(Fault::Memory);
     };

@@ -14,20 +14,31 @@ use crate::inputs::{open_feeds, shut_feeds};
 use command_words::CaptureWord;
 use nf_api::NetFunction;
 use onvm_base::{ListOf, NoMemory, Plan, Text};
-use onvm_host::Host;
+use onvm_host::{Clock, Gate, Host};
 use onvm_report::{Options, Printed, report};
 use onvm_session::{Ended, Run, session};
 use std::alloc::Global;
 use std::sync::Wait;
+use std::thread::Threads;
+use std::time;
 
 /// Replays captures through the functions of a plan: opens them, runs the session, and shuts them.
-pub(crate) fn replay_captures<R: Wait, H: Host, N: NetFunction>(
+pub(crate) fn replay_captures<
+    R: Threads + Wait + time::Clock + Sync,
+    H: Host,
+    N: NetFunction + Send,
+    C: Clock,
+    G: Gate,
+>(
     rt: &R,
     alloc: Global,
     host: &mut H,
     captures: &[CaptureWord],
     plan: &Plan,
     units: ListOf<N>,
+    clock: &C,
+    gate: &G,
+    serial: bool,
 ) -> Result<Run, Fault>
     requires units { length units ≡ length plan.now.functions }
     requires ports { length captures.now ≤ plan.now.ports }
@@ -35,7 +46,8 @@ pub(crate) fn replay_captures<R: Wait, H: Host, N: NetFunction>(
     requires captures { All IsCapture captures.now }
     requires names { MayOpen (H.may_open host.old) captures.now }
     ensures done { IfOk result (λ run. Adds (H.deeds host.old) (H.deeds host.new)
-        (λ deeds. IsReplayOf (acts_by N.acts N.state units) (start_by N.acts N.state units)
+        (λ deeds. IsReplayOf serial (C.may_be_now clock.now) (C.may_span clock.now)
+        (acts_by N.acts N.state units) (start_by N.acts N.state units)
         (H.files host.old) plan.now captures.now deeds run)) }
     ensures err { IfErr result (λ fault. Adds (H.deeds host.old) (H.deeds host.new)
         (λ deeds. StopsAtCaptures captures.now (H.files host.old) deeds fault)) }
@@ -45,7 +57,7 @@ pub(crate) fn replay_captures<R: Wait, H: Host, N: NetFunction>(
         (H.may_open host.new) (H.may_create host.new) }
 {
     let feeds = open_feeds(alloc, host, captures)?;
-    let Ended { outcome, feeds } = session(rt, alloc, plan, units, feeds);
+    let Ended { outcome, feeds } = session(rt, alloc, plan, units, feeds, clock, gate, serial);
     shut_feeds(host, feeds);
     match outcome {
         Ok(run) => Ok(run),

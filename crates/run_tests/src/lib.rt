@@ -9,3 +9,5 @@
 mod runs;
 #[cfg(test)]
 mod sessions;
+#[cfg(test)]
+mod two_roles;

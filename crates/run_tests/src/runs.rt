@@ -13,4 +13,5 @@ mod hosts;
 mod refused;
 mod scarce;
 mod several;
+mod side_by_side;
 mod texts;

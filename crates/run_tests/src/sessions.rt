@@ -10,3 +10,4 @@ mod passes;
 mod plans;
 mod ports;
 mod shares;
+mod side_by_side;

@@ -8,9 +8,10 @@ mod sessions;
 
 use onvm_base::NoMemory;
 use sessions::measure;
-use std::env;
 use std::process::ExitCode;
 use std::sync::Wait;
+use std::thread::Threads;
+use std::{env, time};
 
 fn main(rt: HostRuntime) -> ExitCode {
     let Some(rounds) = rounds(&rt) else {
@@ -33,8 +34,12 @@ fn rounds(rt: &HostRuntime) -> Option<u32> {
     }
 }
 
-// `wait` is the same runtime: only here it is known that it may wait.
-fn measure_all<R: Wait>(rt: &HostRuntime, wait: &R, rounds: u32) -> Result<(), NoMemory> {
+// `wait` is the same runtime: only here it is known that it may wait, and start threads.
+fn measure_all<R: Threads + Wait + time::Clock + Sync>(
+    rt: &HostRuntime,
+    wait: &R,
+    rounds: u32,
+) -> Result<(), NoMemory> {
     for functions in [1, 3, 16] {
         measure(rt, wait, functions, rounds)?;
     }

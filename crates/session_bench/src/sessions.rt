@@ -10,11 +10,13 @@ use crate::cost::Cost;
 use chain_file::read;
 use nf_catalog::units;
 use onvm_base::{FunctionPlan, Kind, ListOf, MAX_PORT_FRAMES, NoMemory, Plan};
-use onvm_host::{Clock, MemInput, SysClock};
+use onvm_host::{Clock, MemInput, OpenGate, StepClock, SysClock};
 use onvm_session::{Feeds, session};
 use rx_feed::{Feed, Generator};
 use std::alloc::Global;
 use std::sync::Wait;
+use std::thread::Threads;
+use std::time;
 
 // How many frames a port takes.
 const FRAMES: u32 = MAX_PORT_FRAMES as u32;
@@ -61,8 +63,8 @@ fn one(alloc: Global, feed: Feed<MemInput>) -> Result<Feeds<MemInput>, NoMemory>
     Ok(feeds)
 }
 
-// One session of these feeds, with its time.
-fn run<R: Wait, C: Clock>(
+// One serial session of these feeds, with its time.
+fn run<R: Threads + Wait + time::Clock + Sync, C: Clock>(
     wait: &R,
     alloc: Global,
     clock: &C,
@@ -76,7 +78,16 @@ fn run<R: Wait, C: Clock>(
 {
     let units = units(alloc, plan, Vec::new(alloc))?;
     let start = clock.now();
-    let ended = session(wait, alloc, plan, units, feeds);
+    let ended = session(
+        wait,
+        alloc,
+        plan,
+        units,
+        feeds,
+        &StepClock { at: 0 },
+        &OpenGate,
+        true,
+    );
     let time = clock.now().saturating_sub(start);
     match &ended.outcome {
         Ok(run) => cost.add(time, run.sent.len() as u64),
@@ -85,8 +96,8 @@ fn run<R: Wait, C: Clock>(
     Ok(())
 }
 
-/// Prints what a frame costs in a session of so many functions, over so many sessions.
-pub fn measure<R: Wait>(
+/// Prints what a frame costs in a serial session of so many functions, over so many sessions.
+pub fn measure<R: Threads + Wait + time::Clock + Sync>(
     rt: &HostRuntime,
     wait: &R,
     functions: u8,

@@ -7,6 +7,8 @@ use onvm_base::Status;
 use std::process::Abort;
 use std::sync::Wait;
 use std::test::Fail;
+use std::thread::Threads;
+use std::time;
 
 const WORDS: [&str; 4] = ["--serial", "c", "o", "k"];
 
@@ -62,7 +64,7 @@ const TORN: Capture = Capture {
 };
 
 // A run over a chain file whose take of this number fails, and two captures. It makes no output.
-fn refuse<R: AllocGlobal + Wait + Abort>(
+fn refuse<R: AllocGlobal + Threads + Wait + time::Clock + Sync + Abort>(
     rt: &R,
     chain: u64,
     captures: [Capture; 2],

@@ -2,13 +2,14 @@
 
 use nf_api::Guest;
 use onvm_base::{ListOf, Status, Text};
-use onvm_host::{MemFile, MemFiles, MemHost, OpenGate, StepClock, have_distinct_names};
+use onvm_host::{Gate, MemFile, MemFiles, MemHost, OpenGate, StepClock, have_distinct_names};
 use onvm_top::{Finish, run};
 use std::alloc::Global;
 use std::process::Abort;
-use std::str;
 use std::sync::Wait;
 use std::test::Fail;
+use std::thread::Threads;
+use std::{str, time};
 
 /// Room for what is said, and for each output: for the heads of all frames that a port takes.
 pub const SPACE: u64 = 4_200_000;
@@ -96,16 +97,27 @@ pub fn status_of(finish: &Finish) -> Result<Status, Fail> {
     Ok(finish.status)
 }
 
-/// The status of a run by these words.
-pub fn play<R: AllocGlobal + Wait>(
+/// The status of a run by these words, over a clock that stands.
+pub fn play_behind<R: AllocGlobal + Threads + Wait + time::Clock + Sync, G: Gate>(
+    rt: &R,
+    host: &mut MemHost,
+    words: &[&str],
+    gate: &G,
+    guests: Vec<Guest>,
+) -> Result<Status, Fail> {
+    let words = words_of(rt.alloc(), words)?;
+    let finish = run(rt, &words, host, &StepClock { at: 0 }, gate, guests);
+    status_of(&finish)
+}
+
+/// The status of a run by these words, whose roles no gate holds up.
+pub fn play<R: AllocGlobal + Threads + Wait + time::Clock + Sync>(
     rt: &R,
     host: &mut MemHost,
     words: &[&str],
     guests: Vec<Guest>,
 ) -> Result<Status, Fail> {
-    let words = words_of(rt.alloc(), words)?;
-    let finish = run(rt, &words, host, &StepClock { at: 0 }, &OpenGate, guests);
-    status_of(&finish)
+    play_behind(rt, host, words, &OpenGate, guests)
 }
 
 /// Compares what a run left with what was expected.
@@ -125,7 +137,7 @@ pub fn compare(
 }
 
 /// Runs over these files by these words, and compares what is left with what was expected.
-pub fn expect<R: AllocGlobal + Wait + Abort>(
+pub fn expect<R: AllocGlobal + Threads + Wait + time::Clock + Sync + Abort>(
     rt: &R,
     given: &[Given<'_>],
     words: &[&str],

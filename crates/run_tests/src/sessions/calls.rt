@@ -13,12 +13,14 @@ use nf_catalog::units;
 use onvm_base::{
     FnId, FrameId, FunctionPlan, Kind, ListOf, NoMemory, Outcome, Plan, PortId, Post, Record,
 };
-use onvm_host::MemInput;
+use onvm_host::{Gate, MemInput, OpenGate, StepClock};
 use onvm_session::{Ended, Feeds, Run, session};
 use rx_feed::Feed;
 use std::alloc::Global;
 use std::sync::Wait;
 use std::test::Fail;
+use std::thread::Threads;
+use std::time;
 
 pub const F: FnId = FnId(0);
 
@@ -96,13 +98,15 @@ pub fn one(alloc: Global, feed: Feed<MemInput>) -> Result<Feeds<MemInput>, NoMem
     Ok(feeds)
 }
 
-/// What comes of a session of a plan with these functions.
-pub fn end_with<R: Wait, N: NetFunction>(
+/// What comes of a session of a plan with these functions, over a clock that stands.
+pub fn end_behind<R: Threads + Wait + time::Clock + Sync, N: NetFunction + Send, G: Gate>(
     rt: &R,
     alloc: Global,
     plan: &Plan,
     units: ListOf<N>,
     feeds: Feeds<MemInput>,
+    gate: &G,
+    serial: bool,
 ) -> Result<Ended<MemInput>, Fail>
     requires fresh { AreFresh feeds }
 {
@@ -112,7 +116,21 @@ pub fn end_with<R: Wait, N: NetFunction>(
     if feeds.len() > usize::from(plan.ports) {
         return Err(Fail::from("more feeds than ports"));
     }
-    Ok(session(rt, alloc, plan, units, feeds))
+    let clock = StepClock { at: 0 };
+    Ok(session(rt, alloc, plan, units, feeds, &clock, gate, serial))
+}
+
+/// What comes of a serial session of a plan with these functions.
+pub fn end_with<R: Threads + Wait + time::Clock + Sync, N: NetFunction + Send>(
+    rt: &R,
+    alloc: Global,
+    plan: &Plan,
+    units: ListOf<N>,
+    feeds: Feeds<MemInput>,
+) -> Result<Ended<MemInput>, Fail>
+    requires fresh { AreFresh feeds }
+{
+    end_behind(rt, alloc, plan, units, feeds, &OpenGate, true)
 }
 
 fn is_guest(kind: &Kind) -> bool
@@ -144,8 +162,8 @@ pub fn plan_of(alloc: Global, file: &str) -> Result<Plan, Fail>
     Ok(plan)
 }
 
-/// What comes of a session of a chain file.
-pub fn end_of<R: Wait>(
+/// What comes of a serial session of a chain file.
+pub fn end_of<R: Threads + Wait + time::Clock + Sync>(
     rt: &R,
     alloc: Global,
     file: &str,
@@ -158,8 +176,8 @@ pub fn end_of<R: Wait>(
     end_with(rt, alloc, &plan, units, feeds)
 }
 
-/// The run of a session of a chain file, which hands back each feed and each buffer.
-pub fn run_of<R: Wait>(
+/// The run of a serial session of a chain file, which hands back each feed and each buffer.
+pub fn run_of<R: Threads + Wait + time::Clock + Sync>(
     rt: &R,
     alloc: Global,
     file: &str,
@@ -180,7 +198,7 @@ pub fn run_of<R: Wait>(
 }
 
 /// The run of these frames through one function.
-pub fn run_of_one<R: Wait>(
+pub fn run_of_one<R: Threads + Wait + time::Clock + Sync>(
     rt: &R,
     alloc: Global,
     top: &str,
@@ -193,7 +211,7 @@ pub fn run_of_one<R: Wait>(
 }
 
 /// The run of so many equal frames through one function.
-pub fn run_of_equal<R: Wait>(
+pub fn run_of_equal<R: Threads + Wait + time::Clock + Sync>(
     rt: &R,
     alloc: Global,
     top: &str,

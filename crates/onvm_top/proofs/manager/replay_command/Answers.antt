@@ -10,7 +10,7 @@ returns-in_err-plan-clause-stopped g c =
     let passed = err_from_is_err_and c.from_residual.result c.from_residual.ensures.1 in
     let named : names_of c.as_slice.result.now ≡ names_of c.args.guests.items = search rules in
     rw (passed.1, passed.2)
-    (Adds-chain _ _ c.args.guests.items (g.H.Host.files c.args.host.now) (g.H.Host.files c.read_plan.new.host)
+    (Adds-chain _ _ _ _ c.args.guests.items (g.H.Host.files c.args.host.now) (g.H.Host.files c.read_plan.new.host)
     (g.H.Host.said c.args.host.now) (g.H.Host.said c.read_plan.new.host)
     (g.H.Host.deeds c.args.host.now) (g.H.Host.deeds c.read_plan.new.host)
     c.args.command.now c.in_err-plan.field-0.0 (names_of c.as_slice.result.now) c.in_err-plan.ensures.files
@@ -24,7 +24,7 @@ units-requires g c =
 
 pub returns-in_default-clause-stopped : goal.returns-in_default-clause-stopped
 returns-in_default-clause-stopped g c =
-    Adds-memory _ _ c.args.guests.items (g.H.Host.files c.args.host.now) (g.H.Host.files c.read_plan.new.host)
+    Adds-memory _ _ _ _ c.args.guests.items (g.H.Host.files c.args.host.now) (g.H.Host.files c.read_plan.new.host)
     (g.H.Host.said c.args.host.now) (g.H.Host.said c.read_plan.new.host)
     (g.H.Host.deeds c.args.host.now) (g.H.Host.deeds c.read_plan.new.host)
     c.args.command.now c.in_ok-plan.ensures.files c.in_ok-plan.ensures.said c.in_ok-plan.ensures.read
@@ -35,7 +35,7 @@ returns-in_err-run-clause-stopped g c =
     let named : names_of c.as_slice.result.now ≡ names_of c.args.guests.items = search rules in
     let those : c.as_slice-captures.result.now ≡ c.args.command.now.captures.items = search rules in
     rw (passed.1, passed.2)
-    (Adds-captures _ _ c.args.guests.items (g.H.Host.files c.args.host.now) (g.H.Host.files c.read_plan.new.host)
+    (Adds-captures _ _ _ _ c.args.guests.items (g.H.Host.files c.args.host.now) (g.H.Host.files c.read_plan.new.host)
     (g.H.Host.files c.replay_captures.new.host)
     (g.H.Host.said c.args.host.now) (g.H.Host.said c.read_plan.new.host) (g.H.Host.said c.replay_captures.new.host)
     (g.H.Host.deeds c.args.host.now) (g.H.Host.deeds c.read_plan.new.host) (g.H.Host.deeds c.replay_captures.new.host)
@@ -47,12 +47,12 @@ pub returns-in_default-report_of-clause-stopped : goal.returns-in_default-report
 returns-in_default-report_of-clause-stopped g c =
     let named : names_of c.as_slice.result.now ≡ names_of c.args.guests.items = search rules in
     let those : c.as_slice-captures.result.now ≡ c.args.command.now.captures.items = search rules in
-    Adds-unreported _ _ c.args.guests.items (g.H.Host.files c.args.host.now) (g.H.Host.files c.replay_captures.new.host)
+    Adds-unreported _ _ _ _ c.args.guests.items (g.H.Host.files c.args.host.now) (g.H.Host.files c.replay_captures.new.host)
     (g.H.Host.said c.args.host.now) (g.H.Host.said c.replay_captures.new.host)
     (g.H.Host.deeds c.args.host.now) (g.H.Host.deeds c.replay_captures.new.host)
     c.args.command.now c.in_ok-plan.plan c.in_ok-run.run' (c.in_ok-run.ensures.files ∙ c.in_ok-plan.ensures.files)
     (c.in_ok-run.ensures.said ∙ c.in_ok-plan.ensures.said)
-    (Adds-Replayed _ _ c.args.guests.items (g.H.Host.files c.args.host.now) (g.H.Host.files c.read_plan.new.host)
+    (Adds-Replayed _ _ _ _ c.args.guests.items (g.H.Host.files c.args.host.now) (g.H.Host.files c.read_plan.new.host)
     (g.H.Host.deeds c.args.host.now) (g.H.Host.deeds c.read_plan.new.host) (g.H.Host.deeds c.replay_captures.new.host)
     c.args.command.now c.in_ok-plan.plan c.in-Ok.units c.in_ok-run.run' (names_of c.as_slice.result.now)
     c.as_slice-captures.result.now c.in_ok-plan.ensures.files named those c.in_ok-plan.ensures.plan
@@ -65,14 +65,14 @@ returns-in_err-leave-clause-stopped g c =
     let those : c.as_slice-captures.result.now ≡ c.args.command.now.captures.items = search rules in
     let is_text : c.as_slice-2.result.now ≡ c.in-Ok-report_of.report = search rules in
     rw (passed.1, passed.2)
-    (Adds-output _ _ c.args.guests.items (g.H.Host.files c.args.host.now) (g.H.Host.files c.replay_captures.new.host)
+    (Adds-output _ _ _ _ c.args.guests.items (g.H.Host.files c.args.host.now) (g.H.Host.files c.replay_captures.new.host)
     (g.H.Host.files c.leave.new.host)
     (g.H.Host.said c.args.host.now) (g.H.Host.said c.replay_captures.new.host) (g.H.Host.said c.leave.new.host)
     (g.H.Host.deeds c.args.host.now) (g.H.Host.deeds c.replay_captures.new.host) (g.H.Host.deeds c.leave.new.host)
     c.args.command.now c.in_ok-plan.plan c.in_ok-run.run' c.in-Ok-report_of.report c.as_slice-2.result.now
     c.in_err-leave.field-0.0 (c.in_ok-run.ensures.files ∙ c.in_ok-plan.ensures.files)
     (c.in_ok-run.ensures.said ∙ c.in_ok-plan.ensures.said) is_text
-    (Adds-Replayed _ _ c.args.guests.items (g.H.Host.files c.args.host.now) (g.H.Host.files c.read_plan.new.host)
+    (Adds-Replayed _ _ _ _ c.args.guests.items (g.H.Host.files c.args.host.now) (g.H.Host.files c.read_plan.new.host)
     (g.H.Host.deeds c.args.host.now) (g.H.Host.deeds c.read_plan.new.host) (g.H.Host.deeds c.replay_captures.new.host)
     c.args.command.now c.in_ok-plan.plan c.in-Ok.units c.in_ok-run.run' (names_of c.as_slice.result.now)
     c.as_slice-captures.result.now c.in_ok-plan.ensures.files named those c.in_ok-plan.ensures.plan
@@ -84,14 +84,14 @@ returns-clause-done g c =
     let named : names_of c.as_slice.result.now ≡ names_of c.args.guests.items = search rules in
     let those : c.as_slice-captures.result.now ≡ c.args.command.now.captures.items = search rules in
     let is_text : c.as_slice-2.result.now ≡ c.in-Ok-report_of.report = search rules in
-    Adds-Done _ _ c.args.guests.items (g.H.Host.files c.args.host.now) (g.H.Host.files c.replay_captures.new.host)
+    Adds-Done _ _ _ _ c.args.guests.items (g.H.Host.files c.args.host.now) (g.H.Host.files c.replay_captures.new.host)
     (g.H.Host.files c.leave.new.host)
     (g.H.Host.said c.args.host.now) (g.H.Host.said c.replay_captures.new.host) (g.H.Host.said c.leave.new.host)
     (g.H.Host.deeds c.args.host.now) (g.H.Host.deeds c.replay_captures.new.host) (g.H.Host.deeds c.leave.new.host)
     c.args.command.now c.in_ok-plan.plan c.in_ok-run.run' c.in-Ok-report_of.report c.as_slice-2.result.now
     (c.in_ok-run.ensures.files ∙ c.in_ok-plan.ensures.files)
     (c.in_ok-run.ensures.said ∙ c.in_ok-plan.ensures.said) is_text
-    (Adds-Replayed _ _ c.args.guests.items (g.H.Host.files c.args.host.now) (g.H.Host.files c.read_plan.new.host)
+    (Adds-Replayed _ _ _ _ c.args.guests.items (g.H.Host.files c.args.host.now) (g.H.Host.files c.read_plan.new.host)
     (g.H.Host.deeds c.args.host.now) (g.H.Host.deeds c.read_plan.new.host) (g.H.Host.deeds c.replay_captures.new.host)
     c.args.command.now c.in_ok-plan.plan c.in-Ok.units c.in_ok-run.run' (names_of c.as_slice.result.now)
     c.as_slice-captures.result.now c.in_ok-plan.ensures.files named those c.in_ok-plan.ensures.plan

@@ -10,7 +10,7 @@ use Rattle.onvm_top.specs.declared.fault.Fault.{Fault}
 use Rattle.onvm_top.proofs.replay.replay_captures.Goals as goal
 
 pub session-outcome-requires-clause-fresh : goal.session-outcome-requires-clause-fresh
-session-outcome-requires-clause-fresh g c =
+session-outcome-requires-clause-fresh g c κs within =
     let source = g.H.Input.Source in
     fresh_feeds source.name source.left source.takes (g.H.Host.files c.args.host.now) c.args.captures.now
     c.in_ok-feeds.feeds c.in_ok-feeds.ensures.feeds c.requires.captures
@@ -20,6 +20,9 @@ returns-in-Ok-clause-done g c =
     let source = g.H.Input.Source in
     let session = c.session-outcome in
     let function = g.N.NetFunction in
+    let serial = c.args.serial in
+    let may_tell = g.C.Clock.may_be_now c.args.clock.now in
+    let cost_may_take = g.C.Clock.may_span c.args.clock.now in
     let plan = c.args.plan.now in
     let feeds = c.in_ok-feeds.feeds in
     let back = session.result.feeds in
@@ -28,9 +31,9 @@ returns-in-Ok-clause-done g c =
     replay_done source.name source.left source.takes (g.H.Host.files c.args.host.now) plan c.args.captures.now feeds back
     c.in_ok-feeds.ensures.feeds session.ensures.handed_back c.requires.ports (g.H.Host.deeds c.args.host.now)
     (g.H.Host.deeds c.open_feeds.new.host) (g.H.Host.deeds c.shut_feeds.new.host) c.in_ok-feeds.ensures.opened
-    c.shut_feeds.ensures.shut acts start c.in-Ok.run'
-    (ok_is (λ run. IsDone source.name source.left source.takes acts start plan feeds back run) session.result.outcome
-    c.in-Ok.run' c.in-Ok.is session.ensures.done)
+    c.shut_feeds.ensures.shut serial may_tell cost_may_take acts start c.in-Ok.run'
+    (ok_is (λ run. IsDone source.name source.left source.takes serial may_tell cost_may_take acts start plan feeds back run)
+    session.result.outcome c.in-Ok.run' c.in-Ok.is session.ensures.done)
 
 pub returns-in-Ok-clause-names : goal.returns-in-Ok-clause-names
 returns-in-Ok-clause-names g c =
