@@ -15,3 +15,8 @@ HaveDistinctNames files = AllPairs (λ file later. file.name ≢ later.name) fil
 abbrev pub fails_of : List ℕ → List MemFile → List ℕ
 fails_of name files =
     unwrap_or (option_map (λ file. file.fail) (find (λ file. bytes_eq file.name name) files)) []
+
+-- at most so many bytes a take or put of the first file of a name moves, or 0 where all that there are
+abbrev pub piece_of : List ℕ → List MemFile → ℕ
+piece_of name files =
+    unwrap_or (option_map (λ file. file.piece) (find (λ file. bytes_eq file.name name) files)) 0

@@ -4,6 +4,7 @@ pub mod Given
 pub mod Memory
 pub mod Moved
 pub mod Names
+pub mod Pieces
 pub mod Story
 pub mod Tally
 pub mod Target

@@ -20,6 +20,7 @@ fn file(rt: HostRuntime, name: &str, bytes: &[u8], fail: &[u64]) -> Result<MemFi
         name: text(rt, name.as_bytes())?,
         bytes: text(rt, bytes)?,
         fail: calls(rt, fail)?,
+        piece: 0,
     })
 }
 
@@ -162,6 +163,33 @@ fn of_a_piece_past_the_space_what_fits_is_taken(rt: HostRuntime) -> Result<(), F
     assert_eq!(rt; host.say(&[6, 7, 8, 9]), Ok(3));
     assert_eq!(rt; host.say(&[9]), Err(Failed));
     assert_eq!(rt; host.said(), [6, 7, 8].as_slice());
+    Ok(())
+}
+
+// Of what there is, of what there is room for, and of what is left, a piece of two bytes. The output
+// takes it over from the file whose name it has.
+#[test]
+fn takes_and_puts_move_at_most_a_piece(rt: HostRuntime) -> Result<(), Fail> {
+    let mut files = MemFiles::make(rt.alloc());
+    let whole = file(rt, "in", &[1, 2, 3, 4, 5], &[])?;
+    files.push(MemFile { piece: 2, ..whole })?;
+    let mut host = MemHost::make(rt.alloc(), files, calls(rt, &[])?, 3)?;
+    let mut into = [0u8; 4];
+    let mut input = host.open_input("in")?;
+    assert_eq!(rt; input.take(&mut into), Ok(2));
+    assert_eq!(rt; into, [1, 2, 0, 0]);
+    assert_eq!(rt; input.take(&mut into[..1]), Ok(1));
+    assert_eq!(rt; input.take(&mut into), Ok(2));
+    assert_eq!(rt; into, [4, 5, 0, 0]);
+    assert_eq!(rt; input.take(&mut into), Ok(0));
+    host.shut(input);
+    let mut output = host.create_output("in")?;
+    assert_eq!(rt; output.put(&[6]), Ok(1));
+    assert_eq!(rt; output.put(&[7, 8, 9]), Ok(2));
+    assert_eq!(rt; output.put(&[9]), Err(Failed));
+    assert_eq!(rt; host.keep(output), Ok(()));
+    assert_eq!(rt; host.file("in"), Some([6, 7, 8].as_slice()));
+    assert_eq!(rt; host.say(&[1, 2, 3]), Ok(3));
     Ok(())
 }
 

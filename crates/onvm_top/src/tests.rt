@@ -23,6 +23,7 @@ fn file(alloc: Global, name: &str, bytes: &[u8]) -> Result<MemFile, Fail> {
         name: Text::from_slice(alloc, name.as_bytes())?,
         bytes: Text::from_slice(alloc, bytes)?,
         fail: ListOf::make(alloc),
+        piece: 0,
     })
 }
 

@@ -54,6 +54,7 @@ impl Stock {
             name: Text::from_slice(alloc, NAME.as_bytes())?,
             bytes: capture(alloc, frames)?,
             fail: ListOf::make(alloc),
+            piece: 0,
         })?;
         if !have_distinct_names(&files) {
             return Err(NoMemory);

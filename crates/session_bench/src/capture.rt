@@ -33,6 +33,7 @@ pub fn host_of(alloc: Global, frames: u32) -> Result<MemHost, NoMemory> {
         name: Text::from_slice(alloc, b"k")?,
         bytes: Text::from_vec(bytes),
         fail: ListOf::make(alloc),
+        piece: 0,
     })?;
     if !have_distinct_names(&files) {
         return Err(NoMemory);

@@ -5,7 +5,7 @@ ghost use Rattle.std.specs.Io.KnownBytes.{WriteAppends};
 ghost use Rattle.std.specs.Result.{result_ok};
 ghost use Rattle.onvm_host.specs.Deeds.{Created, CreateFailed, Opened, OpenFailed, Said, Shut, kept_or_failed, made_or_failed};
 ghost use Rattle.onvm_host.specs.Files.{file_of, Opens, put_file};
-ghost use Rattle.onvm_host.specs.Given.{fails_of, given_entries, HaveDistinctNames};
+ghost use Rattle.onvm_host.specs.Given.{fails_of, given_entries, HaveDistinctNames, piece_of};
 ghost use Rattle.onvm_host.specs.Memory.{entries_of, SameSetUp, space_left};
 ghost use Rattle.onvm_host.specs.Story.{amounts_of, deeds_of};
 ghost use Rattle.onvm_host.specs.Tally.{counted, fails_next, fresh, Refuses};
@@ -95,6 +95,16 @@ impl MemHost {
         Ok(ListOf::from_vec(numbers))
     }
 
+    // At most so many bytes a take or put moves of the given file, or 0 where all that there are.
+    fn piece_of(&self, name: &str) -> u32
+        ensures { result ≡ piece_of name.now self.now.given }
+    {
+        match find_file(self.given.as_slice(), name.as_bytes()) {
+            Some(file) => file.piece,
+            None => 0,
+        }
+    }
+
     // An output under this name, which holds nothing.
     fn output(&self, name: &str) -> Result<MemOutput, NoMemory>
         ensures named { IfOk result (λ output. output.name ≡ name.now) }
@@ -103,6 +113,7 @@ impl MemHost {
         ensures numbers { IfOk result (λ output.
             output.tally ≡ fresh (fails_of name.now self.now.given)) }
         ensures fresh { IfOk result (λ output. output.puts ≡ Amounts.None) }
+        ensures piece { IfOk result (λ output. output.piece ≡ piece_of name.now self.now.given) }
     {
         Ok(MemOutput {
             name: copy_of(self.alloc, name)?,
@@ -110,6 +121,7 @@ impl MemHost {
             tally: Tally::make(self.fail_of(name)?),
             node: Box::new(self.alloc, Written::End)?,
             puts: Amounts::None,
+            piece: self.piece_of(name),
         })
     }
 }
@@ -130,7 +142,7 @@ impl Host for MemHost {
     ghost may_create = { λ _ _. ⊤ };
 
     // Here and below the clauses behind the comment inside say more than the trait: which calls
-    // fail, and what numbers and space an input or an output is given.
+    // fail, and what numbers, piece and space an input or an output is given.
     fn open_input(&mut self, name: &str) -> Result<MemInput, HostFault>
         ensures left { IfOk result (λ input.
             Opens (Some (entries_of self.old)) name.now (⟦<MemInput as Source>⟧.left input)) }
@@ -146,6 +158,7 @@ impl Host for MemHost {
             → IsTrue (fails_next self.old.tally) ⊎ (file_of name.now (entries_of self.old) ≡ None) }
         ensures numbers { IfOk result (λ input.
             input.tally ≡ fresh (fails_of name.now self.old.given)) }
+        ensures piece { IfOk result (λ input. input.piece ≡ piece_of name.now self.old.given) }
         ensures counted { self.new.tally ≡ counted self.old.tally }
         ensures same { SameSetUp self.old self.new }
     {
@@ -161,8 +174,9 @@ impl Host for MemHost {
         };
         let bytes = Vec::from_slice(self.alloc, found)?;
         let fail = self.fail_of(name)?;
+        let piece = self.piece_of(name);
         self.story.opened(&copy);
-        Ok(MemInput::make(copy, bytes, fail))
+        Ok(MemInput::make(copy, bytes, fail, piece))
     }
 
     fn create_output(&mut self, name: &str) -> Result<MemOutput, HostFault>
@@ -179,6 +193,7 @@ impl Host for MemHost {
         ensures failed { result ≡ Err HostFault.Failed → IsTrue (fails_next self.old.tally) }
         ensures numbers { IfOk result (λ output.
             output.tally ≡ fresh (fails_of name.now self.old.given)) }
+        ensures piece { IfOk result (λ output. output.piece ≡ piece_of name.now self.old.given) }
         ensures space { IfOk result (λ output. output.bytes.space ≡ self.old.space) }
         ensures counted { self.new.tally ≡ counted self.old.tally }
         ensures same { SameSetUp self.old self.new }
@@ -246,7 +261,7 @@ impl Host for MemHost {
         ensures counted { self.new.tally ≡ counted self.old.tally }
         ensures same { SameSetUp self.old self.new }
     {
-        let answer = self.said.place(piece, &mut self.tally);
+        let answer = self.said.place(piece, 0, &mut self.tally);
         self.story.said(answer)
     }
 }

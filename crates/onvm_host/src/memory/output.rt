@@ -4,6 +4,7 @@ ghost use Rattle.std.specs.Io.{WritesAtMost};
 ghost use Rattle.std.specs.Io.KnownBytes.{WriteAppends};
 ghost use Rattle.std.specs.Result.{result_ok};
 ghost use Rattle.onvm_host.specs.Memory.{space_left};
+ghost use Rattle.onvm_host.specs.Pieces.{at_most};
 ghost use Rattle.onvm_host.specs.Story.{amounts_of};
 ghost use Rattle.onvm_host.specs.Tally.{counted, Refuses};
 
@@ -22,6 +23,8 @@ pub struct MemOutput {
     pub(super) tally: Tally,
     pub(super) node: Box<Written>,
     pub(super) puts: Amounts,
+    // At most so many bytes a put takes, or 0 where all that fit.
+    pub(super) piece: u32,
 }
 
 impl Sink for MemOutput {
@@ -42,11 +45,12 @@ impl Sink for MemOutput {
         ensures refused { IsErr result
             ↔ Refuses self.old.tally (space_left self.old.bytes) piece.now }
         ensures count { IfOk result (λ n.
-            n ≡ min (length piece.now) (space_left self.old.bytes)) }
+            n ≡ at_most self.old.piece (min (length piece.now) (space_left self.old.bytes))) }
         ensures counted { self.new.tally ≡ counted self.old.tally }
         ensures space { self.new.bytes.space ≡ self.old.bytes.space }
+        ensures piece { self.new.piece ≡ self.old.piece }
     {
-        let answer = self.bytes.place(piece, &mut self.tally);
+        let answer = self.bytes.place(piece, self.piece, &mut self.tally);
         self.puts.add(answer)
     }
 }

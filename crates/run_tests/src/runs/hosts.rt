@@ -70,6 +70,7 @@ pub fn host_of(
             name: Text::from_slice(alloc, file.name.as_bytes())?,
             bytes: Text::from_slice(alloc, file.bytes)?,
             fail: ListOf::from_slice(alloc, file.fail)?,
+            piece: 0,
         })?;
     }
     if !have_distinct_names(&files) {

@@ -40,6 +40,7 @@ fn input_of(alloc: Global, bytes: &[u8], fail: &[u64]) -> Result<MemInput, Fail>
         name: Text::from_slice(alloc, b"k")?,
         bytes: Text::from_slice(alloc, bytes)?,
         fail: ListOf::from_slice(alloc, fail)?,
+        piece: 0,
     })?;
     if !have_distinct_names(&files) {
         return Err(Fail::from("two files of one name"));
