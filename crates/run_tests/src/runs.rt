@@ -7,9 +7,11 @@
 
 mod expected;
 mod failing;
+mod faulty;
 mod frames;
 mod guests;
 mod hosts;
+mod pieces;
 mod refused;
 mod scarce;
 mod several;

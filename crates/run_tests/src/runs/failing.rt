@@ -12,6 +12,9 @@ use std::time;
 
 const WORDS: [&str; 4] = ["--serial", "c", "o", "k"];
 
+// The same with roles beside each other.
+const BESIDE: [&str; 3] = ["c", "o", "k"];
+
 // Also where a port before it has all its frames, or one behind it is faulty.
 #[test]
 fn a_file_that_is_not_there_is_told(rt: HostRuntime) -> Result<(), Fail> {
@@ -124,7 +127,10 @@ fn the_first_fault_of_the_lowest_port_is_told(rt: HostRuntime) -> Result<(), Fai
 }
 
 fn given<'a>(name: &'a str, bytes: &'a [u8], fail: &'a [u64]) -> Given<'a> {
-    Given { name, bytes, fail }
+    Given {
+        fail,
+        ..sound(name, bytes)
+    }
 }
 
 fn unwritten(output: Option<&[u8]>) -> Left<'_> {
@@ -154,21 +160,36 @@ fn a_failed_put_leaves_what_was_put_before(rt: HostRuntime) -> Result<(), Fail> 
     Ok(())
 }
 
-// The opens of both files, the create and the keep of the output, and the report's say. A failed keep
-// and a failed say leave the output whole.
+// The opens of both files, the create and the keep of the output, the report's say, and the say of the
+// fault behind it. A failed keep and a failed say leave the output whole.
 #[test]
 fn a_failed_call_of_the_host_has_its_status(rt: HostRuntime) -> Result<(), Fail> {
-    for (call, expected) in [
-        (1, refused(Status::Read, "fault read chain\n")),
-        (2, refused(Status::Read, "fault read 0\n")),
-        (3, unwritten(None)),
-        (4, unwritten(Some(&EMITTED))),
-        (5, unwritten(Some(&EMITTED))),
+    let silent = Left {
+        said: "",
+        ..unwritten(Some(&EMITTED))
+    };
+    for (words, calls, expected) in [
+        (
+            WORDS.as_slice(),
+            [1].as_slice(),
+            refused(Status::Read, "fault read chain\n"),
+        ),
+        (&WORDS, &[2], refused(Status::Read, "fault read 0\n")),
+        (&WORDS, &[3], unwritten(None)),
+        (&WORDS, &[4], unwritten(Some(&EMITTED))),
+        (&WORDS, &[5], unwritten(Some(&EMITTED))),
+        (&WORDS, &[4, 5], silent),
+        (&WORDS, &[5, 6], silent),
+        (&BESIDE, &[2], refused(Status::Read, "fault read 0\n")),
+        (&BESIDE, &[3], unwritten(None)),
+        (&BESIDE, &[4], unwritten(Some(&EMITTED))),
+        (&BESIDE, &[5], unwritten(Some(&EMITTED))),
+        (&BESIDE, &[5, 6], silent),
     ] {
         let given = [sound("c", FORWARDING.as_bytes()), sound("k", &CAPTURE)];
-        let mut host = host_of(rt.alloc(), &given, &[call], SPACE)?;
-        let status = play(&rt, &mut host, &WORDS, Vec::new(rt.alloc()))?;
-        let shown = format!(in rt.alloc(); "call {call}")?;
+        let mut host = host_of(rt.alloc(), &given, calls, SPACE)?;
+        let status = play(&rt, &mut host, words, Vec::new(rt.alloc()))?;
+        let shown = format!(in rt.alloc(); "{words:?} {calls:?}")?;
         compare(&rt, &host, status, expected, &shown)?;
     }
     Ok(())

@@ -33,6 +33,13 @@ pub fn altered(mut capture: [u8; 56], at: usize, bytes: [u8; 4]) -> [u8; 56] {
     capture
 }
 
+/// The frame of a capture, and behind it that of another.
+pub fn two_frames(alloc: Global, first: &[u8; 56], second: &[u8; 56]) -> Result<Vec<u8>, Fail> {
+    let mut capture = Vec::from_slice(alloc, first)?;
+    capture.extend_from_slice(&second[24..])?;
+    Ok(capture)
+}
+
 // Adds a record, low byte first, of a frame that was captured whole.
 fn add_record(
     capture: &mut Vec<u8>,

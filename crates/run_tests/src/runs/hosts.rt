@@ -14,20 +14,23 @@ use std::{str, time};
 /// Room for what is said, and for each output: for the heads of all frames that a port takes.
 pub const SPACE: u64 = 4_200_000;
 
-/// A file of a host: its name, its bytes, and the numbers, from 1, of its takes or puts that fail.
+/// A file of a host: its name, its bytes, the numbers, from 1, of its takes or puts that fail, and at
+/// most how many bytes each moves, 0 for all.
 #[derive(Clone, Copy)]
 pub struct Given<'a> {
     pub name: &'a str,
     pub bytes: &'a [u8],
     pub fail: &'a [u64],
+    pub piece: u32,
 }
 
-/// A file of which no take or put fails.
+/// A file of which no take or put fails, and each moves all that it can.
 pub fn sound<'a>(name: &'a str, bytes: &'a [u8]) -> Given<'a> {
     Given {
         name,
         bytes,
         fail: &[],
+        piece: 0,
     }
 }
 
@@ -70,7 +73,7 @@ pub fn host_of(
             name: Text::from_slice(alloc, file.name.as_bytes())?,
             bytes: Text::from_slice(alloc, file.bytes)?,
             fail: ListOf::from_slice(alloc, file.fail)?,
-            piece: 0,
+            piece: file.piece,
         })?;
     }
     if !have_distinct_names(&files) {
