@@ -138,7 +138,8 @@ module _ {I N : Type 0} (old was : Manager I N) (latest : ℕ) (seats : List (Se
             last.first
             ∙ ap (token_after (Split (length now.roles.items))) seating.first
             ∙ ap (λ (n : ℕ). record old.first {
-            log = Split (length now.roles.items) ∷ splits (length seats) n ++ old.first.log }) one_less
+              log = Split (length now.roles.items) ∷ splits (length seats) n ++ old.first.log;
+            }) one_less
             ∙ ap (λ (n : ℕ). token_after_some n (length now.roles.items) old.first) (sym one_more);
         each = each_push (λ at seat. IsSeated old latest (length old.roles.items - 1 - at) seat) seats seat seating.each
             (subst (λ (r : ℕ). IsSeated old latest r seat) at_end seated);
