@@ -4,7 +4,7 @@ use Rattle.std.specs.Prelude.{All, IfNone, max, nat_lt, slice_get}
 use Rattle.std.proofs.lemmas.Bool.{cases_Bool, ltb-true, ltb-false}
 use Rattle.std.proofs.lemmas.List.{take_all}
 use Rattle.std.proofs.lemmas.List.Elements.{All-more, All-same, All-weaker}
-use Rattle.std.proofs.lemmas.Option.{get_or_from_slice_get, slice_get_read}
+use Rattle.std.proofs.lemmas.Option.{get_or_from_slice_get}
 use Rattle.onvm_promises.specs.declared.pass.Pass.{Pass}
 use Rattle.onvm_promises.specs.declared.pass.Pass.TheVariants.{Did, Idle}
 use Rattle.onvm_promises.specs.Answers.{is_complete}

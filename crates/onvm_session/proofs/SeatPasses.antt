@@ -1,5 +1,5 @@
 -- Passes of a role in a phase: the role stays in step.
-use Rattle.std.proofs.Common.{◌≡◌, ℕ, ◌<◌, ◌≤◌, Bool, true, false, not, inl, inr, List, [], ◌++◌, length, refl, sym, ◌∙◌, ap, subst, arith, Option, Some, IsSome}
+use Rattle.std.proofs.Common.{◌≡◌, ℕ, ◌<◌, ◌≤◌, Bool, true, false, not, inl, inr, List, [], length, refl, sym, ◌∙◌, ap, subst, arith, Option, Some, IsSome}
 use Rattle.std.specs.Prelude.{max, nat_lt}
 use Rattle.std.proofs.lemmas.Bool.{cases_Bool, false≢true, ltb-true, ltb-false}
 use Rattle.onvm_base.specs.declared.plan.Plan.{Plan}

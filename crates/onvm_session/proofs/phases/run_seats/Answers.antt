@@ -1,4 +1,5 @@
 use Rattle.std.proofs.Common.{◌≡◌, ◌∙◌, true, sym, subst}
+use denote.Exit.{no}
 use denote.Param.Send.{arg_send, arg_sync, param_send, param_sync}
 use Rattle.std.proofs.lemmas.Option.{get_or_from_slice_get}
 use Rattle.onvm_promises.specs.Answers.{is_complete}
@@ -10,7 +11,7 @@ use Rattle.onvm_session.proofs.phases.run_seats.Goals as goal
 
 pub for_each_mut-requires-send-T : goal.for_each_mut-requires-send-T
 for_each_mut-requires-send-T g c κs within =
-    param_send _ _ (arg_send _ _ _ (seat_send _ _ c.type_bounds.send-I c.type_bounds.send-N))
+    param_send _ _ (arg_send _ no _ (seat_send _ _ c.type_bounds.send-I c.type_bounds.send-N))
 
 pub for_each_mut-requires-clause-accepts : goal.for_each_mut-requires-clause-accepts
 for_each_mut-requires-clause-accepts g c κs within = λ i p less read. (
@@ -24,11 +25,11 @@ for_each_mut-requires-clause-accepts g c κs within = λ i p less read. (
           subst (λ (seat : Seat g.row.I.Denot g.row.N.Denot). is_complete seat.answer ≡ true) (sym read)
               (c.requires.complete i p.now less),
           (
-            param_send _ _ (arg_send _ _ _ c.type_bounds.send-I),
-            param_send _ _ (arg_send _ _ _ c.type_bounds.send-N),
-            param_sync _ _ (arg_sync _ _ _ c.type_bounds.sync-R),
-            param_sync _ _ (arg_sync _ _ _ c.type_bounds.sync-C),
-            param_sync _ _ (arg_sync _ _ _ c.type_bounds.sync-G),
+            param_send _ _ (arg_send _ no _ c.type_bounds.send-I),
+            param_send _ _ (arg_send _ no _ c.type_bounds.send-N),
+            param_sync _ _ (arg_sync _ no _ c.type_bounds.sync-R),
+            param_sync _ _ (arg_sync _ no _ c.type_bounds.sync-C),
+            param_sync _ _ (arg_sync _ no _ c.type_bounds.sync-G),
           ),
         ),
       ),
