@@ -43,9 +43,25 @@ pulled_send = search (crosses, sendable) depth 24
 
 stream_send : IsSend Stream.the_row
 stream_send =
-    declared_send Stream.the_type
-    (reader.the_send, (search (crosses, sendable), (search sendable, (search sendable, (search sendable, (search sendable,
-    (option.the_send Fault.the_row fault.the_send, (taken_send, (pulled_send, tt)))))))))
+    declared_send Stream.the_type (
+      reader.the_send,
+      (
+        search (crosses, sendable),
+        (
+          search sendable,
+          (
+            search sendable,
+            (
+              search sendable,
+              (
+                search sendable,
+                (option.the_send Fault.the_row fault.the_send, (taken_send, (pulled_send, tt))),
+              ),
+            ),
+          ),
+        ),
+      ),
+    )
 
 module _ (I : RattleType) (source : IsSend I) where
   kind_send : IsSend (Kind.the_row I)
@@ -66,9 +82,16 @@ module _ (I : RattleType) (source : IsSend I) where
 module _ (N : RattleType) (function : IsSend N) where
   core_send : IsSend (Core.the_row N)
   core_send =
-      declared_send (Core.the_type N)
-      (Vec-send Station.the_row station.the_send, (Vec-send N function, (option.the_send Kept.the_row kept.the_send,
-      (search sendable, (search sendable, (search (crosses, sendable), tt))))))
+      declared_send (Core.the_type N) (
+        Vec-send Station.the_row station.the_send,
+        (
+          Vec-send N function,
+          (
+            option.the_send Kept.the_row kept.the_send,
+            (search sendable, (search sendable, (search (crosses, sendable), tt))),
+          ),
+        ),
+      )
 
 -- The tick role
 

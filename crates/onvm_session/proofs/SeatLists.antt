@@ -4,7 +4,7 @@ use Rattle.std.specs.Prelude.{All, IfNone, max, nat_lt, slice_get}
 use Rattle.std.proofs.lemmas.Bool.{cases_Bool, ltb-true, ltb-false}
 use Rattle.std.proofs.lemmas.List.{take_all}
 use Rattle.std.proofs.lemmas.List.Elements.{All-more, All-same, All-weaker}
-use Rattle.std.proofs.lemmas.Option.{get_or_from_slice_get, slice_get_read}
+use Rattle.std.proofs.lemmas.Option.{get_or_from_slice_get}
 use Rattle.onvm_promises.specs.declared.pass.Pass.{Pass}
 use Rattle.onvm_promises.specs.declared.pass.Pass.TheVariants.{Did, Idle}
 use Rattle.onvm_promises.specs.Answers.{is_complete}
@@ -22,7 +22,7 @@ all_next P n xs x less found here all =
 
 -- a pass that did something, or had nothing to do, wasn't cut short
 pub moved : (answer : Pass) → ((n : ℕ) × (answer ≡ Did n)) ⊎ (answer ≡ Idle) → is_complete answer ≡ true
-moved answer did = elim did [ | inl is ↦ ap is_complete is.1 | inr is ↦ ap is_complete is ]
+moved answer did = elim did [ inl is ↦ ap is_complete is.1 | inr is ↦ ap is_complete is ]
 
 -- no seat was cut short, where none is told
 pub none_through : {I N : Type 0} {H : Type 0} (halt : Option H) (n : ℕ) (seats : List (Seat I N)) → length seats ≤ n
@@ -61,5 +61,5 @@ latest_one first last next n seats seat next_is found one =
       | inr unmet ↦
           let more : seat.latest ≤ last = ltb-false last seat.latest unmet in
           let stays : next ≡ last = omega (arith, more, next_is) in
-          elim one [ | inl is ↦ inl (stays ∙ is) | inr is ↦ inr (is.0, is.1, is.2, stays ∙ is.3) ]
+          elim one [ inl is ↦ inl (stays ∙ is) | inr is ↦ inr (is.0, is.1, is.2, stays ∙ is.3) ]
     ]

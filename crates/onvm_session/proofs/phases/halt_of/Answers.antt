@@ -1,9 +1,8 @@
-use Rattle.std.proofs.Common.{◌≡◌, ◌+◌, Some, Option, true, length, take, refl, sym, ◌∙◌, subst}
+use Rattle.std.proofs.Common.{◌≡◌, ◌+◌, Some, Option, true, take, refl, sym, ◌∙◌, subst}
 use Rattle.std.specs.Prelude.{All, IfNone, slice_get}
 use Rattle.std.proofs.lemmas.Option.{slice_get_read}
 use Rattle.onvm_promises.specs.Answers.{is_complete}
 use Rattle.onvm_session.specs.declared.manager.Halt.{Halt}
-use Rattle.onvm_session.specs.declared.manager.Halt.TheVariants.{Fault}
 use Rattle.onvm_session.proofs.SeatLists.{moved, none_next, none_through}
 use Rattle.onvm_session.proofs.phases.halt_of.Goals.{in-Stopped, in-Did}
 use Rattle.onvm_session.proofs.phases.halt_of.Goals as goal

@@ -1,4 +1,5 @@
 use Rattle.std.proofs.Common.{◌≡◌, ◌∙◌, true, sym, subst}
+use denote.Exit.{no}
 use denote.Param.Send.{arg_send, arg_sync, param_send, param_sync}
 use Rattle.std.proofs.lemmas.Option.{get_or_from_slice_get}
 use Rattle.onvm_promises.specs.Answers.{is_complete}
@@ -10,29 +11,29 @@ use Rattle.onvm_session.proofs.phases.run_seats.Goals as goal
 
 pub for_each_mut-requires-send-T : goal.for_each_mut-requires-send-T
 for_each_mut-requires-send-T g c κs within =
-    param_send _ _ (arg_send _ _ _ (seat_send _ _ c.type_bounds.send-I c.type_bounds.send-N))
+    param_send _ _ (arg_send _ no _ (seat_send _ _ c.type_bounds.send-I c.type_bounds.send-N))
 
 pub for_each_mut-requires-clause-accepts : goal.for_each_mut-requires-clause-accepts
 for_each_mut-requires-clause-accepts g c κs within = λ i p less read. (
-      subst (λ (seat : Seat g.row.I.Denot g.row.N.Denot).
-          IsSeatReady g.N.NetFunction.acts g.N.NetFunction.state (g.C.Clock.may_be_now c.args.clock.now)
-          (g.C.Clock.may_span c.args.clock.now) c.args.board.now c.args.plan.now seat) (sym read)
-          (c.requires.ready i p.now less),
+  subst (λ (seat : Seat g.row.I.Denot g.row.N.Denot).
+      IsSeatReady g.N.NetFunction.acts g.N.NetFunction.state (g.C.Clock.may_be_now c.args.clock.now)
+      (g.C.Clock.may_span c.args.clock.now) c.args.board.now c.args.plan.now seat) (sym read)
+      (c.requires.ready i p.now less),
+  (
+    c.requires.registry,
+    (
+      subst (λ (seat : Seat g.row.I.Denot g.row.N.Denot). is_complete seat.answer ≡ true) (sym read)
+          (c.requires.complete i p.now less),
       (
-        c.requires.registry,
-        (
-          subst (λ (seat : Seat g.row.I.Denot g.row.N.Denot). is_complete seat.answer ≡ true) (sym read)
-              (c.requires.complete i p.now less),
-          (
-            param_send _ _ (arg_send _ _ _ c.type_bounds.send-I),
-            param_send _ _ (arg_send _ _ _ c.type_bounds.send-N),
-            param_sync _ _ (arg_sync _ _ _ c.type_bounds.sync-R),
-            param_sync _ _ (arg_sync _ _ _ c.type_bounds.sync-C),
-            param_sync _ _ (arg_sync _ _ _ c.type_bounds.sync-G),
-          ),
-        ),
+        param_send _ _ (arg_send _ no _ c.type_bounds.send-I),
+        param_send _ _ (arg_send _ no _ c.type_bounds.send-N),
+        param_sync _ _ (arg_sync _ no _ c.type_bounds.sync-R),
+        param_sync _ _ (arg_sync _ no _ c.type_bounds.sync-C),
+        param_sync _ _ (arg_sync _ no _ c.type_bounds.sync-G),
       ),
-    )
+    ),
+  ),
+)
 
 pub returns-clause-each : goal.returns-clause-each
 returns-clause-each g c at was is found found_now =
