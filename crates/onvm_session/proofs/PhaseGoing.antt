@@ -73,83 +73,83 @@ kept_later setting first was now log keeps rises is =
     }
 
 module _ {I N : Type 0} (acts : N → Acts) (state : N → Tree) (may_tell : ℕ → Type 0) (cost_may_take : ℕ → ℕ → Type 0)
-    where
-  -- a role in step, of these roles
-  pub record IsRoleInStep (first : ℕ) (units : List N) (setting : Setting) (now : ℕ) (log : Log) (roles : List (Role I N))
-      (r : ℕ) (moment : ℕ → ℕ) : Type 0 where
-    pub role : Role I N
-    pub latest : ℕ
-    pub at : slice_get roles r ≡ Some role
-    pub reached : latest ≤ now
-    pub step : IsInStep acts state may_tell cost_may_take first units setting r moment latest log role
+  where
+    -- a role in step, of these roles
+    pub record IsRoleInStep (first : ℕ) (units : List N) (setting : Setting) (now : ℕ) (log : Log) (roles : List (Role I N))
+        (r : ℕ) (moment : ℕ → ℕ) : Type 0 where
+      pub role : Role I N
+      pub latest : ℕ
+      pub at : slice_get roles r ≡ Some role
+      pub reached : latest ≤ now
+      pub step : IsInStep acts state may_tell cost_may_take first units setting r moment latest log role
 
-  -- the session tells of each role that it is in step
-  module _ (plan : Plan) (latest first : ℕ) (units : List N) (setting : Setting) (old : Manager I N)
-      (manager : IsManager acts state cost_may_take plan old) (layout_is : setting.layout ≡ old.board.layout)
-      (under : IsUnderwayAt acts state may_tell cost_may_take first latest units setting old)
-    where
-      abbrev states : ℕ → Tree
-      states = states_in acts state old.board.layout old.roles.items
+    -- the session tells of each role that it is in step
+    module _ (plan : Plan) (latest first : ℕ) (units : List N) (setting : Setting) (old : Manager I N)
+        (manager : IsManager acts state cost_may_take plan old) (layout_is : setting.layout ≡ old.board.layout)
+        (under : IsUnderwayAt acts state may_tell cost_may_take first latest units setting old)
+      where
+        abbrev states : ℕ → Tree
+        states = states_in acts state old.board.layout old.roles.items
 
-      abbrev moments : ℕ → ℕ → ℕ
-      moments = under.underway.moments
+        abbrev moments : ℕ → ℕ → ℕ
+        moments = under.underway.moments
 
-      module _ (r : ℕ) (role : Role I N) (found : slice_get old.roles.items r ≡ Some role) where
-        has : HasStates acts state setting.layout r role states
-        has =
-            subst (λ (l : Layout). HasStates acts state l r role states) (sym layout_is)
-            (has_states acts state old.board.layout r role old.roles.items found)
+        module _ (r : ℕ) (role : Role I N) (found : slice_get old.roles.items r ≡ Some role) where
+          has : HasStates acts state setting.layout r role states
+          has =
+              subst (λ (l : Layout). HasStates acts state l r role states) (sym layout_is)
+              (has_states acts state old.board.layout r role old.roles.items found)
 
-        known : r < first_role setting.layout
-        known =
-            let below = got_below old.roles.items r role found in
-            let many = manager.many in
-            subst (λ (l : Layout). r < first_role l) (sym layout_is) (omega (arith, below, many))
+          known : r < first_role setting.layout
+          known =
+              let below = got_below old.roles.items r role found in
+              let many = manager.many in
+              subst (λ (l : Layout). r < first_role l) (sym layout_is) (omega (arith, below, many))
 
-        kind_is : kind_in role ≡ kind_of setting.layout r
-        kind_is =
-            ready_kind acts state cost_may_take old.board plan (split_token r old.first) role
-            (manager.ready r role found)
-            ∙ ap (λ (l : Layout). kind_of l r) (sym layout_is)
+          kind_is : kind_in role ≡ kind_of setting.layout r
+          kind_is =
+              ready_kind acts state cost_may_take old.board plan (split_token r old.first) role
+              (manager.ready r role found)
+              ∙ ap (λ (l : Layout). kind_of l r) (sym layout_is)
 
-        so_far : IsRoleSoFar (acts_by acts state units) (start_by acts state units) states cost_may_take setting r
-            (kind_in role) (moments r) (kept_log r old.first) (keeps_of role)
-        so_far =
-            subst (λ (kind : RoleKind).
-            IsRoleSoFar (acts_by acts state units) (start_by acts state units) states cost_may_take setting r kind
-            (moments r) (kept_log r old.first) (keeps_of role)) (sym kind_is)
-            (subst (IsRoleSoFar (acts_by acts state units) (start_by acts state units) states cost_may_take setting r
-            (kind_of setting.layout r) (moments r) (kept_log r old.first)) (ap keeps_at found)
-            (under.underway.session.roles r known))
-
-        pub was_in_step : IsInStep acts state may_tell cost_may_take first units setting r (moments r) latest
-            (kept_log r old.first) role
-        was_in_step = record {
-          in_order = under.underway.in_order r role found;
-          started = under.underway.started r role found;
-          bound =
-              subst (λ (l : Layout). IsBoundTo acts state l r units role) (sym layout_is)
-              (under.underway.bound r role found);
-          so_far = λ now has_now.
+          so_far : IsRoleSoFar (acts_by acts state units) (start_by acts state units) states cost_may_take setting r
+              (kind_in role) (moments r) (kept_log r old.first) (keeps_of role)
+          so_far =
               subst (λ (kind : RoleKind).
-              IsRoleSoFar (acts_by acts state units) (start_by acts state units) now cost_may_take setting r kind
-              (moments r) (kept_log r old.first) (keeps_of role)) kind_is
-              (so_far_with acts state cost_may_take units setting r role states now (moments r) (kept_log r old.first)
-              (keeps_of role) has has_now so_far);
-          timed = under.underway.session.so_far.timed r;
-          ticks = λ own.
-              subst (λ (keeps : Keeps). AreTicksKept setting first latest (kept_log r old.first) keeps)
-              (ap keeps_at found)
-              (subst (λ (n : ℕ).
-              AreTicksKept setting first latest (kept_log n old.first) (keeps_in old.roles.items n)) (sym own)
-              (kept_later setting first under.underway.latest latest
-              (kept_log (tick_role setting.layout) old.first) (keeps_in old.roles.items (tick_role setting.layout))
-              under.reached under.underway.session.ticks));
-          told = λ own.
-              subst (λ (keeps : Keeps). AllTold may_tell keeps.ticks) (ap keeps_at found)
-              (subst (λ (n : ℕ). AllTold may_tell (keeps_in old.roles.items n).ticks) (sym own)
-              under.underway.session.timed_ticks);
-        }
+              IsRoleSoFar (acts_by acts state units) (start_by acts state units) states cost_may_take setting r kind
+              (moments r) (kept_log r old.first) (keeps_of role)) (sym kind_is)
+              (subst (IsRoleSoFar (acts_by acts state units) (start_by acts state units) states cost_may_take setting r
+              (kind_of setting.layout r) (moments r) (kept_log r old.first)) (ap keeps_at found)
+              (under.underway.session.roles r known))
+
+          pub was_in_step : IsInStep acts state may_tell cost_may_take first units setting r (moments r) latest
+              (kept_log r old.first) role
+          was_in_step = record {
+            in_order = under.underway.in_order r role found;
+            started = under.underway.started r role found;
+            bound =
+                subst (λ (l : Layout). IsBoundTo acts state l r units role) (sym layout_is)
+                (under.underway.bound r role found);
+            so_far = λ now has_now.
+                subst (λ (kind : RoleKind).
+                IsRoleSoFar (acts_by acts state units) (start_by acts state units) now cost_may_take setting r kind
+                (moments r) (kept_log r old.first) (keeps_of role)) kind_is
+                (so_far_with acts state cost_may_take units setting r role states now (moments r) (kept_log r old.first)
+                (keeps_of role) has has_now so_far);
+            timed = under.underway.session.so_far.timed r;
+            ticks = λ own.
+                subst (λ (keeps : Keeps). AreTicksKept setting first latest (kept_log r old.first) keeps)
+                (ap keeps_at found)
+                (subst (λ (n : ℕ).
+                AreTicksKept setting first latest (kept_log n old.first) (keeps_in old.roles.items n)) (sym own)
+                (kept_later setting first under.underway.latest latest
+                (kept_log (tick_role setting.layout) old.first) (keeps_in old.roles.items (tick_role setting.layout))
+                under.reached under.underway.session.ticks));
+            told = λ own.
+                subst (λ (keeps : Keeps). AllTold may_tell keeps.ticks) (ap keeps_at found)
+                (subst (λ (n : ℕ). AllTold may_tell (keeps_in old.roles.items n).ticks) (sym own)
+                under.underway.session.timed_ticks);
+          }
 
 -- All roles
 
