@@ -1,6 +1,7 @@
 -- A phase: what is known of a manager behind it.
 use Rattle.std.proofs.Common.{◌≡◌, ℕ, ◌<◌, ◌≤◌, true, false, List, [], All, length, refl, sym, ◌∙◌, ap, subst, arith, Some}
-use Rattle.std.specs.Prelude.{◌-◌, IsSome, slice_get}
+use Rattle.std.specs.Prelude.{◌-◌, IsSome, Option, slice_get, slice_index_or}
+use Rattle.std.proofs.lemmas.Option.{get_or_from_slice_get, slice_get-get_or, slice_get_within}
 use Rattle.onvm_base.specs.declared.plan.Plan.{Plan}
 use Rattle.onvm_core.specs.declared.layout.Layout.{Layout}
 use Rattle.onvm_core.specs.Layouts.{IsLayout, IsLayoutOf, first_role}
@@ -24,6 +25,17 @@ use Rattle.onvm_session.specs.Moments.{place_of_turn}
 use Rattle.onvm_session.specs.RoleStates.{Grows, IsFed, IsReady, IsUpTo, fault_of}
 use Rattle.onvm_session.specs.Seats.{AreJoinable, AreRolesOf, AreSeated, HasPassed, IsSeatReady, IsSeated}
 use Rattle.onvm_session.specs.Views.{place_in, turns_in}
+
+-- Each of a list, by its place
+
+pub all_at : {X : Type 0} (holds : X → Type 0) (xs : List X) → All holds xs → (at : ℕ) (x : X) → slice_get xs at ≡ Some x
+    → holds x
+all_at holds xs all at x found =
+    subst holds (get_or_from_slice_get xs at x x found) (all at x (slice_get_within xs at x found))
+
+pub all_of_places : {X : Type 0} (holds : X → Type 0) (xs : List X)
+    → ((at : ℕ) (x : X) → slice_get xs at ≡ Some x → holds x) → All holds xs
+all_of_places holds xs each = λ at x less. each at (slice_index_or xs at x) (slice_get-get_or xs at x less)
 
 module _ {I N : Type 0} (acts : N → Acts) (state : N → Tree) (may_tell : ℕ → Type 0) (cost_may_take : ℕ → ℕ → Type 0)
     (name_of : I → List ℕ) (left_of : I → Option (List ℕ)) (takes_of : I → Amounts) (plan : Plan)
@@ -78,6 +90,36 @@ module _ {I N : Type 0} (acts : N → Acts) (state : N → Tree) (may_tell : ℕ
           upto = subst (λ (n : ℕ). IsUpTo n seat.role) (sym here.latest_is) (upto r seat.role here.role);
           told = subst may_tell (sym here.latest_is) told;
         }
+
+    pub all_ready : (slice : List (Seat I N)) (site : BoardView) → slice ≡ was → site ≡ old.board
+        → IsManager acts state cost_may_take plan old → OfEach (λ r role. IsUpTo latest role) old.roles.items
+        → may_tell latest → All (IsSeatReady acts state may_tell cost_may_take site plan) slice
+    all_ready slice site slice_is site_is manager upto told =
+        all_of_places (IsSeatReady acts state may_tell cost_may_take site plan) slice (λ at seat found.
+        subst (λ (b : BoardView). IsSeatReady acts state may_tell cost_may_take b plan seat) (sym site_is)
+        (seats_ready manager upto told at seat
+        (subst (λ (seats : List (Seat I N)). slice_get seats at ≡ Some seat) slice_is found)))
+
+    pub all_complete : (slice : List (Seat I N)) → slice ≡ was → All (λ seat. is_complete seat.answer ≡ true) slice
+    all_complete slice slice_is =
+        all_of_places (λ seat. is_complete seat.answer ≡ true) slice (λ at seat found.
+        (seated.each at seat (subst (λ (seats : List (Seat I N)). slice_get seats at ≡ Some seat) slice_is found)).complete)
+
+    -- what passes of these seats made of them
+    pub seats_passed : (slice is : List (Seat I N)) (site : BoardView) → slice ≡ was → site ≡ old.board
+        → length is ≡ length slice
+        → ((at : ℕ) (before behind : Seat I N) → slice_get slice at ≡ Some before → slice_get is at ≡ Some behind
+        → HasPassed acts state may_tell cost_may_take name_of left_of takes_of site plan before behind)
+        → ArePassed latest was is old
+    seats_passed slice is site slice_is site_is many each = record {
+      seated = seated;
+      many = many ∙ ap length slice_is;
+      each = λ at before behind found found_behind.
+          subst (λ (b : BoardView).
+          HasPassed acts state may_tell cost_may_take name_of left_of takes_of b plan before behind) site_is
+          (each at before behind
+          (subst (λ (seats : List (Seat I N)). slice_get seats at ≡ Some before) (sym slice_is) found) found_behind);
+    }
 
   module _ (latest : ℕ) (was is : List (Seat I N)) (old : Manager I N) (passed : ArePassed latest was is old) where
     -- the seat as it was before the passes
