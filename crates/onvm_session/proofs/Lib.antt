@@ -6,6 +6,7 @@ pub mod Beginnings
 pub mod Boarding
 pub mod Closing
 pub mod Counting
+pub mod Crossing
 pub mod Done
 pub mod Draining
 pub mod ExampleAccount
@@ -55,6 +56,7 @@ pub mod Reading
 pub mod RoleLists
 pub mod RolePasses
 pub mod Rounds
+pub mod SeatLists
 pub mod SeatPasses
 pub mod Seating
 pub mod Serial

@@ -1,5 +1,5 @@
 -- Passes of a role in a phase: the role stays in step.
-use Rattle.std.proofs.Common.{◌≡◌, ℕ, ◌<◌, ◌≤◌, Bool, true, false, not, inl, inr, List, [], ◌++◌, length, refl, sym, ◌∙◌, ap, subst, arith, Option, Some, IsSome}
+use Rattle.std.proofs.Common.{◌≡◌, ℕ, ◌<◌, ◌≤◌, Bool, true, false, not, inl, inr, List, [], length, refl, sym, ◌∙◌, ap, subst, arith, Option, Some, IsSome}
 use Rattle.std.specs.Prelude.{max, nat_lt}
 use Rattle.std.proofs.lemmas.Bool.{cases_Bool, false≢true, ltb-true, ltb-false}
 use Rattle.onvm_base.specs.declared.plan.Plan.{Plan}
@@ -66,105 +66,105 @@ has_own_states acts state layout number (Handle core) = λ f known own. refl
 has_own_states acts state layout number (Tick tick) = tt
 
 module _ {I N : Type 0} (acts : N → Acts) (state : N → Tree) (may_tell : ℕ → Type 0) (cost_may_take : ℕ → ℕ → Type 0)
-    where
-  -- what a pass says, as far as a role that was in step needs it
-  pub record IsPhasePass (site : BoardView) (plan : Plan) (number now : ℕ) (before after : Log) (answer : Pass)
-      (old new : Role I N) : Type 0 where
-    pub promise : (setting : Setting) (moment : ℕ → ℕ) (first : ℕ) (units : List N) (states : ℕ → Tree)
-        → FitsOne site.layout plan number new setting
-        → IsRoleInOrder setting number moment before old
-        → StartedAt first old
-        → IsBoundTo acts state site.layout number units old
-        → HasStates acts state site.layout number new states
-        → IsRolePass (acts_by acts state units) (start_by acts state units) states cost_may_take setting number
-        (kind_of site.layout number) first now false moment before after (keeps_of old) (keeps_of new) answer
-    pub in_order : (setting : Setting) (moment : ℕ → ℕ) → FitsOne site.layout plan number new setting
-        → IsRoleInOrder setting number moment before old
-        → IsRoleInOrder setting number (moment_then moment (length before) now) after new
-    pub first : (first : ℕ) → StartedAt first old → StartedAt first new
-    pub bound : (units : List N) → IsBoundTo acts state site.layout number units old
-        → IsBoundTo acts state site.layout number units new
-
-  module _ (site : BoardView) (plan : Plan) (number now : ℕ) (before after : Log) (answer : Pass) (old new : Role I N)
-      (pass : IsPhasePass site plan number now before after answer old new) (complete : is_complete answer ≡ true)
-      (first latest : ℕ) (units : List N) (setting : Setting) (moment : ℕ → ℕ) (rises : latest ≤ now)
-      (answered : may_tell now) (fits : FitsOne site.layout plan number new setting)
-      (step : IsInStep acts state may_tell cost_may_take first units setting number moment latest before old)
-    where
-      layout_is : setting.layout ≡ site.layout
-      layout_is = fits_layout site.layout plan number new setting fits
-
-      promised : (states : ℕ → Tree) → HasStates acts state setting.layout number new states
+  where
+    -- what a pass says, as far as a role that was in step needs it
+    pub record IsPhasePass (site : BoardView) (plan : Plan) (number now : ℕ) (before after : Log) (answer : Pass)
+        (old new : Role I N) : Type 0 where
+      pub promise : (setting : Setting) (moment : ℕ → ℕ) (first : ℕ) (units : List N) (states : ℕ → Tree)
+          → FitsOne site.layout plan number new setting
+          → IsRoleInOrder setting number moment before old
+          → StartedAt first old
+          → IsBoundTo acts state site.layout number units old
+          → HasStates acts state site.layout number new states
           → IsRolePass (acts_by acts state units) (start_by acts state units) states cost_may_take setting number
-          (kind_of setting.layout number) first now false moment before after (keeps_of old) (keeps_of new) answer
-      promised states has =
-          subst (λ (l : Layout).
-          IsRolePass (acts_by acts state units) (start_by acts state units) states cost_may_take setting number
-          (kind_of l number) first now false moment before after (keeps_of old) (keeps_of new) answer) (sym layout_is)
-          (pass.promise setting moment first units states fits step.in_order step.started
-          (subst (λ (l : Layout). IsBoundTo acts state l number units old) layout_is step.bound)
-          (subst (λ (l : Layout). HasStates acts state l number new states) layout_is has))
+          (kind_of site.layout number) first now false moment before after (keeps_of old) (keeps_of new) answer
+      pub in_order : (setting : Setting) (moment : ℕ → ℕ) → FitsOne site.layout plan number new setting
+          → IsRoleInOrder setting number moment before old
+          → IsRoleInOrder setting number (moment_then moment (length before) now) after new
+      pub first : (first : ℕ) → StartedAt first old → StartedAt first new
+      pub bound : (units : List N) → IsBoundTo acts state site.layout number units old
+          → IsBoundTo acts state site.layout number units new
 
-      was_so_far : IsRoleSoFar (acts_by acts state units) (start_by acts state units) (state_at acts state (Some old))
-          cost_may_take setting number (kind_of setting.layout number) moment before (keeps_of old)
-      was_so_far =
-          step.so_far (state_at acts state (Some old)) (has_own_states acts state setting.layout number old)
+    module _ (site : BoardView) (plan : Plan) (number now : ℕ) (before after : Log) (answer : Pass) (old new : Role I N)
+        (pass : IsPhasePass site plan number now before after answer old new) (complete : is_complete answer ≡ true)
+        (first latest : ℕ) (units : List N) (setting : Setting) (moment : ℕ → ℕ) (rises : latest ≤ now)
+        (answered : may_tell now) (fits : FitsOne site.layout plan number new setting)
+        (step : IsInStep acts state may_tell cost_may_take first units setting number moment latest before old)
+      where
+        layout_is : setting.layout ≡ site.layout
+        layout_is = fits_layout site.layout plan number new setting fits
 
-      passed : (states : ℕ → Tree) → HasStates acts state setting.layout number new states
-          → Passed (acts_by acts state units) (start_by acts state units) states cost_may_take setting number
-          (kind_of setting.layout number) now moment before after (keeps_of new)
-      passed states has =
-          passed_of (acts_by acts state units) (start_by acts state units) (state_at acts state (Some old)) states
-          cost_may_take setting number (kind_of setting.layout number) first now false moment before after
-          (keeps_of old) (keeps_of new) answer was_so_far (promised states has) complete
+        promised : (states : ℕ → Tree) → HasStates acts state setting.layout number new states
+            → IsRolePass (acts_by acts state units) (start_by acts state units) states cost_may_take setting number
+            (kind_of setting.layout number) first now false moment before after (keeps_of old) (keeps_of new) answer
+        promised states has =
+            subst (λ (l : Layout).
+            IsRolePass (acts_by acts state units) (start_by acts state units) states cost_may_take setting number
+            (kind_of l number) first now false moment before after (keeps_of old) (keeps_of new) answer) (sym layout_is)
+            (pass.promise setting moment first units states fits step.in_order step.started
+            (subst (λ (l : Layout). IsBoundTo acts state l number units old) layout_is step.bound)
+            (subst (λ (l : Layout). HasStates acts state l number new states) layout_is has))
 
-      own_passed : Passed (acts_by acts state units) (start_by acts state units) (state_at acts state (Some new))
-          cost_may_take setting number (kind_of setting.layout number) now moment before after (keeps_of new)
-      own_passed = passed (state_at acts state (Some new)) (has_own_states acts state setting.layout number new)
+        was_so_far : IsRoleSoFar (acts_by acts state units) (start_by acts state units) (state_at acts state (Some old))
+            cost_may_take setting number (kind_of setting.layout number) moment before (keeps_of old)
+        was_so_far =
+            step.so_far (state_at acts state (Some old)) (has_own_states acts state setting.layout number old)
 
-      -- of the tick role
-      module _ (own : number ≡ tick_role setting.layout) where
-        kind_is : kind_of setting.layout number ≡ Ticks
-        kind_is = ap (kind_of setting.layout) own ∙ kind_tick setting.layout
+        passed : (states : ℕ → Tree) → HasStates acts state setting.layout number new states
+            → Passed (acts_by acts state units) (start_by acts state units) states cost_may_take setting number
+            (kind_of setting.layout number) now moment before after (keeps_of new)
+        passed states has =
+            passed_of (acts_by acts state units) (start_by acts state units) (state_at acts state (Some old)) states
+            cost_may_take setting number (kind_of setting.layout number) first now false moment before after
+            (keeps_of old) (keeps_of new) answer was_so_far (promised states has) complete
 
-        tick_was : IsRoleSoFar (acts_by acts state units) (start_by acts state units)
-            (state_at acts state (Some old)) cost_may_take setting number Ticks moment before (keeps_of old)
-        tick_was =
-            subst (λ (kind : RoleKind).
-            IsRoleSoFar (acts_by acts state units) (start_by acts state units) (state_at acts state (Some old))
-            cost_may_take setting number kind moment before (keeps_of old)) kind_is was_so_far
+        own_passed : Passed (acts_by acts state units) (start_by acts state units) (state_at acts state (Some new))
+            cost_may_take setting number (kind_of setting.layout number) now moment before after (keeps_of new)
+        own_passed = passed (state_at acts state (Some new)) (has_own_states acts state setting.layout number new)
 
-        tick_pass : IsRolePass (acts_by acts state units) (start_by acts state units)
-            (state_at acts state (Some new)) cost_may_take setting number Ticks first now false moment before
-            after (keeps_of old) (keeps_of new) answer
-        tick_pass =
-            subst (λ (kind : RoleKind).
-            IsRolePass (acts_by acts state units) (start_by acts state units) (state_at acts state (Some new))
-            cost_may_take setting number kind first now false moment before after (keeps_of old) (keeps_of new) answer)
-            kind_is
-            (promised (state_at acts state (Some new)) (has_own_states acts state setting.layout number new))
+        -- of the tick role
+        module _ (own : number ≡ tick_role setting.layout) where
+          kind_is : kind_of setting.layout number ≡ Ticks
+          kind_is = ap (kind_of setting.layout) own ∙ kind_tick setting.layout
 
-      pub in_step : IsInStep acts state may_tell cost_may_take first units setting number
-          (moment_then moment (length before) now) now after new
-      in_step = record {
-        in_order = pass.in_order setting moment fits step.in_order;
-        started = pass.first first step.started;
-        bound =
-            subst (λ (l : Layout). IsBoundTo acts state l number units new) (sym layout_is)
-            (pass.bound units
-            (subst (λ (l : Layout). IsBoundTo acts state l number units old) layout_is step.bound));
-        so_far = λ states has. (passed states has).so_far;
-        timed =
-            subst (λ (log : Log). (n : ℕ) → n < length log → may_tell (moment_then moment (length before) now n))
-            (sym own_passed.grown)
-            (timed_pass may_tell moment now own_passed.added before step.timed answered);
-        ticks = λ own.
-            kept_next setting number first latest now false moment before after (keeps_of old) (keeps_of new) answer
-            (tick_was own) (tick_pass own) complete (step.ticks own) rises refl;
-        told = λ own.
-            told_now setting number first latest now false moment before after (keeps_of old) (keeps_of new) answer
-            (tick_was own) (tick_pass own) complete (step.ticks own) rises may_tell (step.told own) answered;
-      }
+          tick_was : IsRoleSoFar (acts_by acts state units) (start_by acts state units)
+              (state_at acts state (Some old)) cost_may_take setting number Ticks moment before (keeps_of old)
+          tick_was =
+              subst (λ (kind : RoleKind).
+              IsRoleSoFar (acts_by acts state units) (start_by acts state units) (state_at acts state (Some old))
+              cost_may_take setting number kind moment before (keeps_of old)) kind_is was_so_far
+
+          tick_pass : IsRolePass (acts_by acts state units) (start_by acts state units)
+              (state_at acts state (Some new)) cost_may_take setting number Ticks first now false moment before
+              after (keeps_of old) (keeps_of new) answer
+          tick_pass =
+              subst (λ (kind : RoleKind).
+              IsRolePass (acts_by acts state units) (start_by acts state units) (state_at acts state (Some new))
+              cost_may_take setting number kind first now false moment before after (keeps_of old) (keeps_of new) answer)
+              kind_is
+              (promised (state_at acts state (Some new)) (has_own_states acts state setting.layout number new))
+
+        pub in_step : IsInStep acts state may_tell cost_may_take first units setting number
+            (moment_then moment (length before) now) now after new
+        in_step = record {
+          in_order = pass.in_order setting moment fits step.in_order;
+          started = pass.first first step.started;
+          bound =
+              subst (λ (l : Layout). IsBoundTo acts state l number units new) (sym layout_is)
+              (pass.bound units
+              (subst (λ (l : Layout). IsBoundTo acts state l number units old) layout_is step.bound));
+          so_far = λ states has. (passed states has).so_far;
+          timed =
+              subst (λ (log : Log). (n : ℕ) → n < length log → may_tell (moment_then moment (length before) now n))
+              (sym own_passed.grown)
+              (timed_pass may_tell moment now own_passed.added before step.timed answered);
+          ticks = λ own.
+              kept_next setting number first latest now false moment before after (keeps_of old) (keeps_of new) answer
+              (tick_was own) (tick_pass own) complete (step.ticks own) rises refl;
+          told = λ own.
+              told_now setting number first latest now false moment before after (keeps_of old) (keeps_of new) answer
+              (tick_was own) (tick_pass own) complete (step.ticks own) rises may_tell (step.told own) answered;
+        }
 
 -- Passes after passes
 
@@ -209,12 +209,12 @@ module _ {I N : Type 0} (acts : N → Acts) (state : N → Tree) (may_tell : ℕ
       fed = fed;
       stopped = stopped;
       on = λ whole first units setting moment fits step. (
-          moment_then moment (length old.token.log) now,
-          in_step acts state may_tell cost_may_take site plan old.number now old.token.log token.log answer old.role role
-              (subst (λ (n : ℕ).
-              IsPhasePass acts state may_tell cost_may_take site plan n now old.token.log token.log answer old.role role)
-              ready.own pass) whole first old.latest units setting moment rises answered fits step,
-        );
+        moment_then moment (length old.token.log) now,
+        in_step acts state may_tell cost_may_take site plan old.number now old.token.log token.log answer old.role role
+            (subst (λ (n : ℕ).
+            IsPhasePass acts state may_tell cost_may_take site plan n now old.token.log token.log answer old.role role)
+            ready.own pass) whole first old.latest units setting moment rises answered fits step,
+      );
     }
 
     -- passes behind others that weren't cut short
