@@ -16,7 +16,7 @@ use Rattle.onvm_session.specs.declared.seat.Seat.{Seat}
 use Rattle.onvm_session.specs.Boards.{token_after_splits}
 use Rattle.onvm_session.specs.Seats.{AreJoinable, AreRolesOf, AreSeated, AreTokensJoined, IsSeated, OfEachSeat}
 use Rattle.onvm_session.specs.Sessions.{lengths_of}
-use Rattle.onvm_session.specs.Views.{joins, splits}
+use Rattle.onvm_session.specs.Views.{splits}
 
 -- Places of lists
 
@@ -129,8 +129,8 @@ module _ {I N : Type 0} (old was : Manager I N) (latest : ℕ) (seats : List (Se
       one_more : length (seats ++ seat ∷ []) ≡ suc (length seats)
       one_more = let pushed = length_push seats seat in omega (arith, pushed)
 
-      pub seating_next : AreSeating old now latest (seats ++ seat ∷ [])
-      seating_next = record {
+      pub seating_next : (after : List (Seat I N)) → after ≡ seats ++ seat ∷ [] → AreSeating old now latest after
+      seating_next after pushed = subst (AreSeating old now latest) (sym pushed) (record {
         behind = seat.role ∷ seating.behind;
         parts = parts_now;
         many = omega (arith, seating.many, one_less, one_more);
@@ -138,11 +138,12 @@ module _ {I N : Type 0} (old was : Manager I N) (latest : ℕ) (seats : List (Se
             last.first
             ∙ ap (token_after (Split (length now.roles.items))) seating.first
             ∙ ap (λ (n : ℕ). record old.first {
-            log = Split (length now.roles.items) ∷ splits (length seats) n ++ old.first.log }) one_less
+              log = Split (length now.roles.items) ∷ splits (length seats) n ++ old.first.log;
+            }) one_less
             ∙ ap (λ (n : ℕ). token_after_some n (length now.roles.items) old.first) (sym one_more);
         each = each_push (λ at seat. IsSeated old latest (length old.roles.items - 1 - at) seat) seats seat seating.each
             (subst (λ (r : ℕ). IsSeated old latest r seat) at_end seated);
-      }
+      })
         where
           at_end : length now.roles.items ≡ length old.roles.items - 1 - length seats
           at_end = omega (arith, seating.many, one_less)

@@ -1,11 +1,11 @@
-use Rattle.std.proofs.Common.{◌≡◌, ◌<◌, ◌∙◌, refl, sym, subst, arith, List, length}
+use Rattle.std.proofs.Common.{◌≡◌, ◌<◌, ◌∙◌, refl, sym, subst, arith, length}
 use Rattle.onvm_core.specs.declared.step.Act.TheVariants.{Split}
 use Rattle.onvm_core.specs.Layouts.{first_role}
 use Rattle.onvm_board.specs.Tokens.{BoardView, split_token, token_after}
 use Rattle.onvm_promises.specs.declared.pass.Pass.TheVariants.{Idle}
 use Rattle.onvm_session.specs.declared.manager.Manager.{Manager}
 use Rattle.onvm_session.specs.declared.seat.Seat.{Seat}
-use Rattle.onvm_session.proofs.PhaseSeats.{AreSeating, IsSeatOfLast, all_seated, all_split, last_unsplit, seating_begins, seating_next}
+use Rattle.onvm_session.proofs.PhaseSeats.{IsSeatOfLast, all_seated, all_split, last_unsplit, seating_begins, seating_next}
 use Rattle.onvm_session.proofs.manager.Manager.seat_all.Given.{Over}
 use Rattle.onvm_session.proofs.manager.Manager.seat_all.Goals as goal
 
@@ -70,9 +70,9 @@ unfolding behind seat_of
 loop-preserved g c =
     let was = c.loop.invariant in
     record {
-      seating = subst (AreSeating c.args.self.now (behind g c) c.args.latest) (sym {A = List (Seat g.row.I.Denot g.row.N.Denot)} c.push_reserved.ensures.items)
-          (seating_next c.args.self.now c.loop.self c.args.latest c.loop.seats.items was.seating (behind g c)
-          (seat_of g c) (last_of g c));
+      seating =
+          seating_next c.args.self.now c.loop.self c.args.latest c.loop.seats.items was.seating (behind g c)
+          (seat_of g c) (last_of g c) c.push_reserved.new.self.items c.push_reserved.ensures.items;
       counted =
           let shorter = c.take_last-role.ensures.len in
           let long = c.loop.self.roles.ok.0 in
