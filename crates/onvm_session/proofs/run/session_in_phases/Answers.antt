@@ -27,6 +27,13 @@ finish-requires-clause-room g c =
 pub hand_back-requires : goal.hand_back-requires
 hand_back-requires g c = record {
   room =
+      room_back _ _ _ c.args.plan.now c.args.feeds c.start-manager.result
+      (tended_first _ _ _ _ _ _ _ c.args.units c.now-first.result c.start-manager.result c.start-manager.ensures) c.requires.feeds;
+}
+
+pub hand_back-requires-in-Err-Memory : goal.hand_back-requires-in-Err-Memory
+hand_back-requires-in-Err-Memory g c = record {
+  room =
       room_back _ _ _ c.args.plan.now c.args.feeds c.make_phases.new.self
       (tended_then _ _ _ _ _ c.start-manager.result c.make_phases.new.self c.make_phases.ensures.grow
       (tended_first _ _ _ _ _ _ _ c.args.units c.now-first.result c.start-manager.result c.start-manager.ensures)) c.requires.feeds;
@@ -43,6 +50,18 @@ hand_back-requires-in-Err-Fault g c = record {
       (tended_then _ _ _ _ _ c.start-manager.result c.make_phases.new.self c.make_phases.ensures.grow
       (tended_first _ _ _ _ _ _ _ c.args.units c.now-first.result c.start-manager.result c.start-manager.ensures))) c.requires.feeds;
 }
+
+pub returns-in_default-clause-handed_back : goal.returns-in_default-clause-handed_back
+returns-in_default-clause-handed_back g c =
+    back_as _ _ _ c.args.plan.now c.args.feeds c.start-manager.result
+    (tended_first _ _ _ _ _ _ _ c.args.units c.now-first.result c.start-manager.result c.start-manager.ensures) c.requires.feeds
+    c.hand_back.result.feeds c.hand_back.ensures.feeds
+
+pub returns-in_default-clause-stands : goal.returns-in_default-clause-stands
+returns-in_default-clause-stands g c =
+    stand_as _ _ _ c.args.plan.now c.args.feeds c.start-manager.result
+    (tended_first _ _ _ _ _ _ _ c.args.units c.now-first.result c.start-manager.result c.start-manager.ensures) c.requires.feeds
+    c.hand_back.result.feeds c.hand_back.ensures.feeds
 
 pub returns-in-Ok-make_phases-clause-handed_back : goal.returns-in-Ok-make_phases-clause-handed_back
 returns-in-Ok-make_phases-clause-handed_back g c =
@@ -73,33 +92,33 @@ returns-in-Err-Memory-clause-handed_back g c =
     back_as _ _ _ c.args.plan.now c.args.feeds c.make_phases.new.self
     (tended_then _ _ _ _ _ c.start-manager.result c.make_phases.new.self c.make_phases.ensures.grow
     (tended_first _ _ _ _ _ _ _ c.args.units c.now-first.result c.start-manager.result c.start-manager.ensures)) c.requires.feeds
-    c.hand_back.result.feeds c.hand_back.ensures.feeds
+    c.hand_back-in-Err-Memory.result.feeds c.hand_back-in-Err-Memory.ensures.feeds
 
 pub returns-in-Err-Memory-clause-stands : goal.returns-in-Err-Memory-clause-stands
 returns-in-Err-Memory-clause-stands g c =
     stand_as _ _ _ c.args.plan.now c.args.feeds c.make_phases.new.self
     (tended_then _ _ _ _ _ c.start-manager.result c.make_phases.new.self c.make_phases.ensures.grow
     (tended_first _ _ _ _ _ _ _ c.args.units c.now-first.result c.start-manager.result c.start-manager.ensures)) c.requires.feeds
-    c.hand_back.result.feeds c.hand_back.ensures.feeds
+    c.hand_back-in-Err-Memory.result.feeds c.hand_back-in-Err-Memory.ensures.feeds
 
-pub returns-in-Err-Fault-clause-handed_back : goal.returns-in-Err-Fault-clause-handed_back
-returns-in-Err-Fault-clause-handed_back g c =
+pub returns-clause-handed_back : goal.returns-clause-handed_back
+returns-clause-handed_back g c =
     back_as _ _ _ c.args.plan.now c.args.feeds c.find_fault-stop.new.self
     (tended_then _ _ _ _ _ c.make_phases.new.self c.find_fault-stop.new.self c.find_fault-stop.ensures.grow
     (tended_then _ _ _ _ _ c.start-manager.result c.make_phases.new.self c.make_phases.ensures.grow
     (tended_first _ _ _ _ _ _ _ c.args.units c.now-first.result c.start-manager.result c.start-manager.ensures))) c.requires.feeds
     c.hand_back-in-Err-Fault.result.feeds c.hand_back-in-Err-Fault.ensures.feeds
 
-pub returns-in-Err-Fault-clause-stands : goal.returns-in-Err-Fault-clause-stands
-returns-in-Err-Fault-clause-stands g c =
+pub returns-clause-stands : goal.returns-clause-stands
+returns-clause-stands g c =
     stand_as _ _ _ c.args.plan.now c.args.feeds c.find_fault-stop.new.self
     (tended_then _ _ _ _ _ c.make_phases.new.self c.find_fault-stop.new.self c.find_fault-stop.ensures.grow
     (tended_then _ _ _ _ _ c.start-manager.result c.make_phases.new.self c.make_phases.ensures.grow
     (tended_first _ _ _ _ _ _ _ c.args.units c.now-first.result c.start-manager.result c.start-manager.ensures))) c.requires.feeds
     c.hand_back-in-Err-Fault.result.feeds c.hand_back-in-Err-Fault.ensures.feeds
 
-pub returns-in-Err-Fault-clause-stopped : goal.returns-in-Err-Fault-clause-stopped
-returns-in-Err-Fault-clause-stopped g c =
+pub returns-clause-stopped : goal.returns-clause-stopped
+returns-clause-stopped g c =
     stopped_as _ _ _ c.args.plan.now c.args.feeds c.find_fault-stop.new.self
     (tended_then _ _ _ _ _ c.make_phases.new.self c.find_fault-stop.new.self c.find_fault-stop.ensures.grow
     (tended_then _ _ _ _ _ c.start-manager.result c.make_phases.new.self c.make_phases.ensures.grow
