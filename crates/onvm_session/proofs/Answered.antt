@@ -283,11 +283,11 @@ module _ {I N : Type 0} (name_of : I → List ℕ) (left_of : I → Option (List
       (any_spans acts state cost_may_take plan manager is_manager) over closed
       (λ setting fits.
       let at = on.on began units setting fits
-      (new_underway_at name_of left_of takes_of acts state plan units given began first new may_tell cost_may_take setting
-      (all_earlier name_of left_of takes_of plan setting first manager grow fits)) in
+      (new_underway_at name_of left_of takes_of acts state plan units given began first new may_tell cost_may_take
+      setting (all_earlier name_of left_of takes_of plan setting first manager grow fits)) in
       record { underway = at.underway; moment = (told, at.reached) }))
-  phases_done acts state may_tell cost_may_take units began first now (Err stop) back new grow on is_manager over told is
-      closed = tt
+  phases_done acts state may_tell cost_may_take units began first now (Err stop) back new grow on is_manager over told
+      is closed = tt
 
   pub stopped_as : (stop : Stop) (outcome : Result Run Stop) (back : List (Feed I)) → outcome ≡ Err stop
       → back ≡ manager.feeds.items ++ feeds_of manager.roles.items
