@@ -10,12 +10,14 @@ passes := crates/pass_bench/out/pass_bench
 sessions := crates/session_bench/out/session_bench
 sources := crates.txt $(shell find crates -name out -prune -o -type f '(' -name '*.rt' -o -name '*.antt' ')' -print)
 
-.PHONY: help test run bench build
+.PHONY: help test soak run bench build
 
 help:
 	@echo 'make build   proves and builds the program, where a source is newer than it'
 	@echo 'make run     replays the first example, and prints the report and what was emitted'
 	@echo "make test    the merge gate: every proof, test and must-fail edit, then the repository's own checks"
+	@echo "make soak    many runs of roles beside each other, for hours: the same bytes as with --serial, each frame"
+	@echo '             accounted for under stress, and what is lost on few and on busy processors'
 	@echo 'make bench   the program beside other ones that copy captures, what functions cost per frame,'
 	@echo '             and what windows of samples, the board, rules, passes and sessions cost; never part of a test'
 
@@ -24,7 +26,11 @@ test:
 	@log=$$(mktemp); \
 	trap 'status=$$?; sh checks/total.sh "$$status" "$$log"; rm -f "$$log"; exit "$$status"' EXIT; \
 	rt ci | tee "$$log"; \
-	for check in repository examples captures system; do sh checks/$$check.sh | tee -a "$$log"; done
+	for check in repository examples captures system threads; do sh checks/$$check.sh | tee -a "$$log"; done
+
+soak: $(program)
+	@sh checks/threads.sh 1000 1000
+	@sh checks/losses.sh 50
 
 run: $(program)
 	@sh checks/show.sh examples/01-one-frame

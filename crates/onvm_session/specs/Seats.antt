@@ -23,43 +23,43 @@ OfEachSeat {I} {N} holds seats = (at : ℕ) (seat : Seat I N) → slice_get seat
     → holds (length seats - 1 - at) seat
 
 module _ {I N : Type 0} (acts : N → Acts) (state : N → Tree) (may_tell : ℕ → Type 0) (cost_may_take : ℕ → ℕ → Type 0)
-    where
-  -- a role alone, between two passes up to this moment, where the clock may tell each of its moments
-  pub record IsInStep (first : ℕ) (units : List N) (setting : Setting) (number : ℕ) (moment : ℕ → ℕ) (latest : ℕ)
-      (log : Log) (role : Role I N) : Type 0 where
-    pub in_order : IsRoleInOrder setting number moment log role
-    pub started : StartedAt first role
-    pub bound : IsBoundTo acts state setting.layout number units role
-    pub so_far : (states : ℕ → Tree) → HasStates acts state setting.layout number role states
-        → IsRoleSoFar (acts_by acts state units) (start_by acts state units) states cost_may_take setting number
-        (kind_of setting.layout number) moment log (keeps_of role)
-    pub timed : (n : ℕ) → n < length log → may_tell (moment n)
-    pub ticks : number ≡ tick_role setting.layout → AreTicksKept setting first latest log (keeps_of role)
-    pub told : number ≡ tick_role setting.layout → AllTold may_tell (keeps_of role).ticks
+  where
+    -- a role alone, between two passes up to this moment, where the clock may tell each of its moments
+    pub record IsInStep (first : ℕ) (units : List N) (setting : Setting) (number : ℕ) (moment : ℕ → ℕ) (latest : ℕ)
+        (log : Log) (role : Role I N) : Type 0 where
+      pub in_order : IsRoleInOrder setting number moment log role
+      pub started : StartedAt first role
+      pub bound : IsBoundTo acts state setting.layout number units role
+      pub so_far : (states : ℕ → Tree) → HasStates acts state setting.layout number role states
+          → IsRoleSoFar (acts_by acts state units) (start_by acts state units) states cost_may_take setting number
+          (kind_of setting.layout number) moment log (keeps_of role)
+      pub timed : (n : ℕ) → n < length log → may_tell (moment n)
+      pub ticks : number ≡ tick_role setting.layout → AreTicksKept setting first latest log (keeps_of role)
+      pub told : number ≡ tick_role setting.layout → AllTold may_tell (keeps_of role).ticks
 
-  -- a seat is ready for a pass
-  pub record IsSeatReady (site : BoardView) (plan : Plan) (seat : Seat I N) : Type 0 where
-    pub own : seat.token.role ≡ seat.number
-    pub ready : IsReady acts state cost_may_take site plan seat.token seat.role
-    pub upto : IsUpTo seat.latest seat.role
-    pub told : may_tell seat.latest
+    -- a seat is ready for a pass
+    pub record IsSeatReady (site : BoardView) (plan : Plan) (seat : Seat I N) : Type 0 where
+      pub own : seat.token.role ≡ seat.number
+      pub ready : IsReady acts state cost_may_take site plan seat.token seat.role
+      pub upto : IsUpTo seat.latest seat.role
+      pub told : may_tell seat.latest
 
-  -- a seat was left so by passes: its role is in step, as it was before
-  pub record HasPassed (name_of : I → List ℕ) (left_of : I → Option (List ℕ)) (takes_of : I → Amounts) (site : BoardView)
-      (plan : Plan) (old new : Seat I N) : Type 0 where
-    pub number : new.number ≡ old.number
-    pub board : new.token.board ≡ old.token.board
-    pub ready : IsSeatReady site plan new
-    pub later : old.latest ≤ new.latest
-    pub empty_handed : old.token.hand ≡ [] → is_complete new.answer ≡ true → new.token.hand ≡ []
-    pub grows : Grows old.role new.role
-    pub fed : StaysFed name_of left_of takes_of old.role new.role
-    pub stopped : new.answer ≡ Stopped → IsSome (fault_of new.role)
-    pub on : is_complete new.answer ≡ true
-        → (first : ℕ) (units : List N) (setting : Setting) (moment : ℕ → ℕ)
-        → FitsOne site.layout plan new.number new.role setting
-        → IsInStep first units setting old.number moment old.latest old.token.log old.role
-        → (now : ℕ → ℕ) × IsInStep first units setting new.number now new.latest new.token.log new.role
+    -- a seat was left so by passes: its role is in step, as it was before
+    pub record HasPassed (name_of : I → List ℕ) (left_of : I → Option (List ℕ)) (takes_of : I → Amounts) (site : BoardView)
+        (plan : Plan) (old new : Seat I N) : Type 0 where
+      pub number : new.number ≡ old.number
+      pub board : new.token.board ≡ old.token.board
+      pub ready : IsSeatReady site plan new
+      pub later : old.latest ≤ new.latest
+      pub empty_handed : old.token.hand ≡ [] → is_complete new.answer ≡ true → new.token.hand ≡ []
+      pub grows : Grows old.role new.role
+      pub fed : StaysFed name_of left_of takes_of old.role new.role
+      pub stopped : new.answer ≡ Stopped → IsSome (fault_of new.role)
+      pub on : is_complete new.answer ≡ true
+          → (first : ℕ) (units : List N) (setting : Setting) (moment : ℕ → ℕ)
+          → FitsOne site.layout plan new.number new.role setting
+          → IsInStep first units setting old.number moment old.latest old.token.log old.role
+          → (now : ℕ → ℕ) × IsInStep first units setting new.number now new.latest new.token.log new.role
 
 -- a role of this number took its seat: it has the token that was split for it, and made no pass since
 pub record IsSeated {I N : Type 0} (manager : Manager I N) (latest number : ℕ) (seat : Seat I N) : Type 0 where

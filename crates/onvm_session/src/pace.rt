@@ -12,21 +12,19 @@ use onvm_base::Plan;
 use onvm_promises::Pass;
 use std::hint::spin_loop;
 use std::sync::atomic::{AtomicBool, AtomicU64, Ordering};
-use std::thread;
-use std::time;
 use std::time::Duration;
+use std::{thread, time};
 
 // A role that has nothing to do looks so often in a row for something, then lets others run so often
 // between its looks, and sleeps between further ones.
 const SPINS: u32 = 64;
-const YIELDS: u32 = 64;
+
+const YIELDS: u32 = 4096;
+
 const SLEEPS: u32 = 20_000;
 
-// The tick role lets others run so often before it looks: a mail ring holds 64 samples.
-const TICK_SPINS: u32 = SPINS + 4;
-
 // How long a role sleeps between two looks, in microseconds.
-const NAP: u64 = 20;
+const NAP: u64 = 50;
 
 /// What roles tell each other of how far they are.
 #[derive(Drop)]
@@ -42,7 +40,8 @@ pub struct Pace {
     // How many receive roles have pulled all their frames.
     ended: AtomicU64,
     over: AtomicBool,
-    // How many passes of receive and transmit roles, and of cores, moved frames.
+    // How many passes of receive and transmit roles brought frames to functions, and how many of cores
+    // handled some.
     fed: AtomicU64,
     handled: AtomicU64,
 }
@@ -56,7 +55,7 @@ pub struct Stride {
     reserved: u64,
     // How many passes that may have brought it something there were.
     seen: u64,
-    // Its last pass did something, so there may be more to do.
+    // Its last pass did as much as it may, so there may be more to do.
     busy: bool,
     ended: bool,
 }
@@ -130,10 +129,10 @@ impl Pace {
             if self.is_over() {
                 return false;
             }
-            if self.has_work(role, stride, turn) {
+            if self.has_work(role, stride) {
                 return true;
             }
-            rest(rt, turn);
+            rest(rt, role, turn);
         }
         true
     }
@@ -146,11 +145,10 @@ impl Pace {
     }
 
     // Whether the next pass may find something to do. A receive role may pull a burst then.
-    fn has_work<I, N>(&self, role: &Role<I, N>, stride: &mut Stride, turn: u32) -> bool {
+    fn has_work<I, N>(&self, role: &Role<I, N>, stride: &mut Stride) -> bool {
         let came = match role {
             Role::Receive(_) if !stride.ended => return self.reserve(stride),
             Role::Handle(_) => self.fed.load(Ordering::SeqCst),
-            Role::Tick(_) if turn < TICK_SPINS => stride.seen,
             Role::Receive(_) | Role::Send(_) | Role::Tick(_) => self.handled.load(Ordering::SeqCst),
         };
         let has_work = stride.busy || came != stride.seen;
@@ -187,12 +185,15 @@ impl Pace {
         stride.pulled = pulled;
         stride.recorded = recorded;
         stride.reserved = 0;
-        let did = matches!(answer, Pass::Did(_));
+        let did = match answer {
+            Pass::Did(did) => u64::from(did),
+            Pass::Idle | Pass::Wanting | Pass::Stopped => 0,
+        };
         match role {
-            Role::Receive(_) | Role::Send(_) if did => {
+            Role::Receive(_) | Role::Send(_) if did > gone => {
                 self.fed.fetch_add(1, Ordering::SeqCst);
             }
-            Role::Handle(_) if did => {
+            Role::Handle(_) if did > 0 => {
                 self.handled.fetch_add(1, Ordering::SeqCst);
             }
             _ => {}
@@ -204,17 +205,18 @@ impl Pace {
             stride.ended = true;
             self.ended.fetch_add(1, Ordering::SeqCst);
         }
-        stride.busy = did;
+        stride.busy = did >= self.burst;
     }
 }
 
-// Lets others go on between two looks.
-fn rest<T: time::Clock>(rt: &T, turn: u32) {
-    if turn < SPINS {
-        spin_loop();
-    } else if turn < SPINS + YIELDS {
-        thread::yield_now();
-    } else {
-        thread::sleep(rt, Duration::from_micros(NAP));
+// Lets others go on between two looks. The tick role always sleeps: nobody waits for it, and a mail ring
+// holds 64 samples.
+fn rest<T: time::Clock, I, N>(rt: &T, role: &Role<I, N>, turn: u32) {
+    match role {
+        Role::Receive(_) | Role::Send(_) | Role::Handle(_) if turn < SPINS => spin_loop(),
+        Role::Receive(_) | Role::Send(_) | Role::Handle(_) if turn < SPINS + YIELDS => {
+            thread::yield_now();
+        }
+        _ => thread::sleep(rt, Duration::from_micros(NAP)),
     }
 }

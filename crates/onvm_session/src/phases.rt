@@ -20,9 +20,8 @@ use onvm_host::{Clock, Gate, Source};
 use onvm_promises::Pass;
 use std::alloc::Global;
 use std::sync::Wait;
-use std::thread;
 use std::thread::Threads;
-use std::time;
+use std::{thread, time};
 
 /// More threads than a session has roles.
 const MOST_THREADS: usize = 32;
@@ -204,7 +203,17 @@ impl<I: Source, N: NetFunction> Manager<I, N> {
     {
         self.seat_all(seats, latest);
         let all = seats.as_mut_slice();
-        run_seats(rt, alloc, all, &self.board, plan, &self.registry, clock, gate, pace);
+        run_seats(
+            rt,
+            alloc,
+            all,
+            &self.board,
+            plan,
+            &self.registry,
+            clock,
+            gate,
+            pace,
+        );
         if let Some(halt) = halt_of(seats.as_slice()) {
             self.leave_all(seats);
             return Err(halt);

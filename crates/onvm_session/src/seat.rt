@@ -48,15 +48,9 @@ impl<I: Source, N: NetFunction> Seat<I, N> {
             board.now plan.now self.old self.new }
     {
         let now = clock.now().max(self.latest);
-        self.answer = self.role.pass(
-            alloc,
-            &mut self.token,
-            board,
-            plan,
-            registry,
-            clock,
-            now,
-        );
+        self.answer = self
+            .role
+            .pass(alloc, &mut self.token, board, plan, registry, clock, now);
         self.latest = now;
     }
 
