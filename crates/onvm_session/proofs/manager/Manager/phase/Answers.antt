@@ -1,4 +1,4 @@
-use Rattle.std.proofs.Common.{◌≡◌, ◌≤◌, inl, inr, List, length, refl, sym, ◌∙◌, ap, subst, true, Some}
+use Rattle.std.proofs.Common.{◌≡◌, ◌≤◌, All, inl, inr, List, length, refl, sym, ◌∙◌, ap, subst, true, Some}
 use Rattle.std.specs.Prelude.{slice_get}
 use Rattle.std.specs.Vec.{with_items}
 use Rattle.std.proofs.lemmas.List.{with_items_is}
@@ -30,36 +30,29 @@ run_seats-requires-clause-complete g c κs within =
     c.seat_all.new.seats.items c.args.self.now c.seat_all.ensures.seated c.as_mut_slice-all.result.now
     c.as_mut_slice-all.ensures.value
 
--- Behind passes, the seats are those that they left
+-- Where a pass was cut short
 
-passed_run : (g : Over) (c : goal.After-run_seats g)
-    → ArePassed g.N.NetFunction.acts g.N.NetFunction.state (g.C.Clock.may_be_now c.args.clock.now)
-    (g.C.Clock.may_span c.args.clock.now) g.I.Source.name g.I.Source.left g.I.Source.takes c.args.plan.now c.args.latest
-    c.seat_all.new.seats.items c.run_seats.new.seats c.args.self.now
-passed_run g c =
-    seats_passed g.N.NetFunction.acts g.N.NetFunction.state (g.C.Clock.may_be_now c.args.clock.now)
-    (g.C.Clock.may_span c.args.clock.now) g.I.Source.name g.I.Source.left g.I.Source.takes c.args.plan.now c.args.latest
-    c.seat_all.new.seats.items c.args.self.now c.seat_all.ensures.seated c.as_mut_slice-all.result.now
-    c.run_seats.new.seats c.seat_all.new.self.board c.as_mut_slice-all.ensures.value c.seat_all.ensures.same.0
-    c.run_seats.ensures.many c.run_seats.ensures.each
-
-items_are : (g : Over) (c : goal.After-run_seats g)
+-- the seats are those that the passes left
+items_cut : (g : Over) (c : goal.After-leave_all g)
     → (with_items c.seat_all.new.seats c.run_seats.new.seats).items ≡ c.run_seats.new.seats
-items_are g c =
+items_cut g c =
     with_items_is c.seat_all.new.seats c.run_seats.new.seats
     (c.run_seats.ensures.many ∙ c.as_mut_slice-all.ensures.len)
-
--- Where a pass was cut short
 
 passes_cut : (g : Over) (c : goal.After-leave_all g)
     → ArePasses g.N.NetFunction.acts g.N.NetFunction.state (g.C.Clock.may_be_now c.args.clock.now)
     (g.C.Clock.may_span c.args.clock.now) g.I.Source.name g.I.Source.left g.I.Source.takes c.args.plan.now c.args.latest
     c.seat_all.new.seats.items c.run_seats.new.seats c.args.self.now c.leave_all.new.self
 passes_cut g c = record {
-  passed = passed_run g c;
+  passed =
+      seats_passed g.N.NetFunction.acts g.N.NetFunction.state (g.C.Clock.may_be_now c.args.clock.now)
+      (g.C.Clock.may_span c.args.clock.now) g.I.Source.name g.I.Source.left g.I.Source.takes c.args.plan.now
+      c.args.latest c.seat_all.new.seats.items c.args.self.now c.seat_all.ensures.seated c.as_mut_slice-all.result.now
+      c.run_seats.new.seats c.seat_all.new.self.board c.as_mut_slice-all.ensures.value c.seat_all.ensures.same.0
+      c.run_seats.ensures.many c.run_seats.ensures.each;
   roles =
       subst (λ (seats : List (Seat g.row.I.Denot g.row.N.Denot)). AreRolesOf seats c.leave_all.new.self.roles.items)
-      (items_are g c) c.leave_all.ensures.roles;
+      (items_cut g c) c.leave_all.ensures.roles;
   board = c.leave_all.ensures.same.0 ∙ c.seat_all.ensures.same.0;
   feeds = c.leave_all.ensures.same.1 ∙ c.seat_all.ensures.same.3;
 }
@@ -77,17 +70,9 @@ returns-in-Some-clause-fault g c = λ stopped.
     (g.C.Clock.may_span c.args.clock.now) g.I.Source.name g.I.Source.left g.I.Source.takes c.args.plan.now c.args.latest
     c.seat_all.new.seats.items c.run_seats.new.seats c.args.self.now c.leave_all.new.self (passes_cut g c) cut.0 cut.1
     (subst (λ (seats : List (Seat g.row.I.Denot g.row.N.Denot)). slice_get seats cut.0 ≡ Some cut.1)
-    (c.as_slice.ensures.value ∙ items_are g c) cut.2) cut.3
+    (c.as_slice.ensures.value ∙ items_cut g c) cut.2) cut.3
 
 -- Where none was
-
-complete_run : (g : Over) (c : goal.After-last_moment-now g) (at : _) (seat : Seat g.row.I.Denot g.row.N.Denot)
-    → slice_get c.run_seats.new.seats at ≡ Some seat → is_complete seat.answer ≡ true
-complete_run g c at seat found =
-    all_at (λ (seat : Seat g.row.I.Denot g.row.N.Denot). is_complete seat.answer ≡ true) c.as_slice.result.now
-    c.in_default.ensures.none at seat
-    (subst (λ (seats : List (Seat g.row.I.Denot g.row.N.Denot)). slice_get seats at ≡ Some seat)
-    (sym (c.as_slice.ensures.value ∙ items_are g c)) found)
 
 pub join_all-requires-clause-first : goal.join_all-requires-clause-first
 join_all-requires-clause-first g c =
@@ -98,13 +83,39 @@ join_all-requires-clause-first g c =
 
 pub join_all-requires-clause-joinable : goal.join_all-requires-clause-joinable
 join_all-requires-clause-joinable g c =
+    let items_are = with_items_is c.seat_all.new.seats c.run_seats.new.seats
+    (c.run_seats.ensures.many ∙ c.as_mut_slice-all.ensures.len) in
+    let passed = seats_passed g.N.NetFunction.acts g.N.NetFunction.state (g.C.Clock.may_be_now c.args.clock.now)
+    (g.C.Clock.may_span c.args.clock.now) g.I.Source.name g.I.Source.left g.I.Source.takes c.args.plan.now c.args.latest
+    c.seat_all.new.seats.items c.args.self.now c.seat_all.ensures.seated c.as_mut_slice-all.result.now
+    c.run_seats.new.seats c.seat_all.new.self.board c.as_mut_slice-all.ensures.value c.seat_all.ensures.same.0
+    c.run_seats.ensures.many c.run_seats.ensures.each in
     subst (λ (b : BoardView). AreJoinable b (with_items c.seat_all.new.seats c.run_seats.new.seats).items)
     (sym c.seat_all.ensures.same.0)
-    (subst (AreJoinable c.args.self.now.board) (sym (items_are g c))
+    (subst (AreJoinable c.args.self.now.board) (sym items_are)
     (seats_joinable g.N.NetFunction.acts g.N.NetFunction.state (g.C.Clock.may_be_now c.args.clock.now)
     (g.C.Clock.may_span c.args.clock.now) g.I.Source.name g.I.Source.left g.I.Source.takes c.args.plan.now c.args.latest
-    c.seat_all.new.seats.items c.run_seats.new.seats c.args.self.now (passed_run g c) c.requires.manager
-    (complete_run g c)))
+    c.seat_all.new.seats.items c.run_seats.new.seats c.args.self.now passed c.requires.manager
+    (all_at (λ (seat : Seat g.row.I.Denot g.row.N.Denot). is_complete seat.answer ≡ true) c.run_seats.new.seats
+    (subst (All (λ (seat : Seat g.row.I.Denot g.row.N.Denot). is_complete seat.answer ≡ true))
+    (c.as_slice.ensures.value ∙ items_are) c.in_default.ensures.none))))
+
+items_are : (g : Over) (c : goal.After-look g)
+    → (with_items c.seat_all.new.seats c.run_seats.new.seats).items ≡ c.run_seats.new.seats
+items_are g c =
+    with_items_is c.seat_all.new.seats c.run_seats.new.seats
+    (c.run_seats.ensures.many ∙ c.as_mut_slice-all.ensures.len)
+
+passed_run : (g : Over) (c : goal.After-look g)
+    → ArePassed g.N.NetFunction.acts g.N.NetFunction.state (g.C.Clock.may_be_now c.args.clock.now)
+    (g.C.Clock.may_span c.args.clock.now) g.I.Source.name g.I.Source.left g.I.Source.takes c.args.plan.now c.args.latest
+    c.seat_all.new.seats.items c.run_seats.new.seats c.args.self.now
+passed_run g c =
+    seats_passed g.N.NetFunction.acts g.N.NetFunction.state (g.C.Clock.may_be_now c.args.clock.now)
+    (g.C.Clock.may_span c.args.clock.now) g.I.Source.name g.I.Source.left g.I.Source.takes c.args.plan.now c.args.latest
+    c.seat_all.new.seats.items c.args.self.now c.seat_all.ensures.seated c.as_mut_slice-all.result.now
+    c.run_seats.new.seats c.seat_all.new.self.board c.as_mut_slice-all.ensures.value c.seat_all.ensures.same.0
+    c.run_seats.ensures.many c.run_seats.ensures.each
 
 -- the manager behind the look
 abbrev behind : (g : Over) → goal.After-look g → Manager g.row.I.Denot g.row.N.Denot
@@ -124,12 +135,15 @@ phase_of g c = record {
     board = c.join_all.ensures.same.0 ∙ c.seat_all.ensures.same.0;
     feeds = c.join_all.ensures.same.3 ∙ c.seat_all.ensures.same.3;
   };
-  complete = complete_run g c;
-  upto = λ at seat found.
+  complete =
+      all_at (λ (seat : Seat g.row.I.Denot g.row.N.Denot). is_complete seat.answer ≡ true) c.run_seats.new.seats
+      (subst (All (λ (seat : Seat g.row.I.Denot g.row.N.Denot). is_complete seat.answer ≡ true))
+      (c.as_slice.ensures.value ∙ items_are g c) c.in_default.ensures.none);
+  upto =
       all_at (λ (seat : Seat g.row.I.Denot g.row.N.Denot). seat.latest ≤ c.last_moment-now.result)
-      c.as_slice-2.result.now c.last_moment-now.ensures.all at seat
-      (subst (λ (seats : List (Seat g.row.I.Denot g.row.N.Denot)). slice_get seats at ≡ Some seat)
-      (sym (c.as_slice-2.ensures.value ∙ items_are g c)) found);
+      c.run_seats.new.seats
+      (subst (All (λ (seat : Seat g.row.I.Denot g.row.N.Denot). seat.latest ≤ c.last_moment-now.result))
+      (c.as_slice-2.ensures.value ∙ items_are g c) c.last_moment-now.ensures.all);
   registry = c.join_all.ensures.same.1 ∙ c.seat_all.ensures.same.1;
   layout = c.join_all.ensures.same.2 ∙ c.seat_all.ensures.same.2;
   token = record {
