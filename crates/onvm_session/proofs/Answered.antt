@@ -6,6 +6,7 @@ use Rattle.onvm_base.specs.declared.limits.TheConstants.{MAX_PORT_FRAMES}
 use Rattle.onvm_base.specs.declared.plan.Plan.{Plan}
 use Rattle.onvm_core.specs.declared.layout.Layout.{Layout}
 use Rattle.onvm_core.specs.Layouts.{IsLayoutOf}
+use Rattle.onvm_core.specs.Journals.{Handling}
 use Rattle.onvm_core.specs.Logs.{Setting, entries_of_port}
 use Rattle.onvm_host.specs.Deeds.{Amounts}
 use Rattle.nf_api.specs.Acts.{Acts}
@@ -57,6 +58,27 @@ few_pulled (Some (Live source)) standing is = is.within.few
 few_pulled (Some (Made g)) standing is =
     let made = ap (λ (s : Standing). length s.pulled) is.0 in
     omega (arith, made, length-made_frames g.seed g.given, is.2, is.3)
+
+-- in a serial session no clock is asked, whatever it may tell
+pub serial_done : {I S : Type 0} (name_of : I → List ℕ) (left_of : I → Option (List ℕ)) (takes_of : I → Amounts)
+    (acts : ℕ → S → Handling → S → Type 0) (start : ℕ → S) (plan : Plan) (feeds back : List (Feed I))
+    (serial : Bool) (may_tell : ℕ → Type 0) (cost_may_take : ℕ → ℕ → Type 0) (outcome : Result Run Stop)
+    → serial ≡ true
+    → IfOk outcome (λ run. IsDone name_of left_of takes_of true any_moment any_span acts start plan feeds back run)
+    → IfOk outcome (λ run.
+    IsDone name_of left_of takes_of serial may_tell cost_may_take acts start plan feeds back run)
+serial_done name_of left_of takes_of acts start plan feeds back serial may_tell cost_may_take (Ok run) is done =
+    subst (λ (b : Bool). IsDone name_of left_of takes_of b may_tell cost_may_take acts start plan feeds back run)
+    (sym is)
+    (record {
+      standings = done.standings;
+      stand = done.stand;
+      ended = done.ended;
+      run_is = done.run_is;
+      accounted = done.accounted;
+      counted = done.counted;
+    })
+serial_done name_of left_of takes_of acts start plan feeds back serial may_tell cost_may_take (Err stop) is done = tt
 
 -- a session of either kind between turns, which may be closed at this moment
 pub record IsAtEnd {I N : Type 0} (acts : N → Acts) (state : N → Tree) (serial : Bool) (may_tell : ℕ → Type 0)
@@ -283,11 +305,11 @@ module _ {I N : Type 0} (name_of : I → List ℕ) (left_of : I → Option (List
       (any_spans acts state cost_may_take plan manager is_manager) over closed
       (λ setting fits.
       let at = on.on began units setting fits
-      (new_underway_at name_of left_of takes_of acts state plan units given began first new may_tell cost_may_take setting
-      (all_earlier name_of left_of takes_of plan setting first manager grow fits)) in
+      (new_underway_at name_of left_of takes_of acts state plan units given began first new may_tell cost_may_take
+      setting (all_earlier name_of left_of takes_of plan setting first manager grow fits)) in
       record { underway = at.underway; moment = (told, at.reached) }))
-  phases_done acts state may_tell cost_may_take units began first now (Err stop) back new grow on is_manager over told is
-      closed = tt
+  phases_done acts state may_tell cost_may_take units began first now (Err stop) back new grow on is_manager over told
+      is closed = tt
 
   pub stopped_as : (stop : Stop) (outcome : Result Run Stop) (back : List (Feed I)) → outcome ≡ Err stop
       → back ≡ manager.feeds.items ++ feeds_of manager.roles.items

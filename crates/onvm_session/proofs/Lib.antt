@@ -61,7 +61,6 @@ pub mod SeatPasses
 pub mod Seating
 pub mod Serial
 pub mod SerialTicking
-pub mod SeriallyDone
 pub mod SessionLists
 pub mod Starting
 pub mod Stepping

@@ -83,7 +83,8 @@ phases_none layout lead NoPhase role = refl
 phases_none layout lead (APhase seen before are) role =
     ap (split_in role) (append_assoc (joins (first_role layout)) (splits (first_role layout) 0) before)
     ∙ joins_off (first_role layout) role (splits (first_role layout) 0 ++ before)
-    (λ behind. splits_off (first_role layout) 0 role before (omega (arith, behind)) (phases_none layout before are role))
+    (λ behind. splits_off (first_role layout) 0 role before (omega (arith, behind))
+    (phases_none layout before are role))
 
 -- who acts, other than the first token, is split
 acting_split : (layout : Layout) (step : Step) (before : History) → IsLawful layout (step ∷ before)

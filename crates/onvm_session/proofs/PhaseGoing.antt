@@ -311,31 +311,28 @@ module _ {I N : Type 0} (acts : N → Acts) (state : N → Tree) (may_tell : ℕ
                   (kept_log r new.first)) (some_inj one.role role (sym one.at ∙ found)) one.step,
             )
 
-        underway_now : IsUnderway acts state false may_tell cost_may_take first units setting new
+        underway_now : IsUnderwayAt acts state may_tell cost_may_take first now units setting new
         underway_now = record {
-          moments = moments_now;
-          latest = tick_step.latest;
-          session =
-              subst (λ (view : FinalView).
-              IsSession false may_tell (acts_by acts state units) (start_by acts state units) states_now
-              cost_may_take setting moments_now first tick_step.latest view (keeps_in new.roles.items)) (sym view_now)
-              session_behind;
-          in_order = λ r role found. (step_at r role found).1.in_order;
-          started = λ r role found. (step_at r role found).1.started;
-          bound = λ r role found.
-              subst (λ (l : Layout). IsBoundTo acts state l r units role) fits.layout_is
-              (step_at r role found).1.bound;
+          underway = record {
+            moments = moments_now;
+            latest = tick_step.latest;
+            session =
+                subst (λ (view : FinalView).
+                IsSession false may_tell (acts_by acts state units) (start_by acts state units) states_now
+                cost_may_take setting moments_now first tick_step.latest view (keeps_in new.roles.items)) (sym view_now)
+                session_behind;
+            in_order = λ r role found. (step_at r role found).1.in_order;
+            started = λ r role found. (step_at r role found).1.started;
+            bound = λ r role found.
+                subst (λ (l : Layout). IsBoundTo acts state l r units role) fits.layout_is
+                (step_at r role found).1.bound;
+          };
+          reached = tick_step.reached;
         }
 
     -- what the session was it is behind the phase
     pub phase_on : GoesOnTo acts state may_tell cost_may_take plan latest now old new
-    phase_on = record {
-      on = λ first units setting fits under.
-          record {
-            underway = underway_now first units setting fits under;
-            reached = (tick_step first units setting fits under).reached;
-          };
-    }
+    phase_on = record { on = λ first units setting fits under. underway_now first units setting fits under }
 
 -- Phases after phases
 

@@ -22,18 +22,29 @@ pub finish-requires-clause-room : goal.finish-requires-clause-room
 finish-requires-clause-room g c =
     room_back _ _ _ c.args.plan.now c.args.feeds c.make_phases.new.self
     (tended_then _ _ _ _ _ c.start-manager.result c.make_phases.new.self c.make_phases.ensures.grow
-    (tended_first _ _ _ _ _ _ _ c.args.units c.now-first.result c.start-manager.result c.start-manager.ensures)) c.requires.feeds
+    (tended_first _ _ _ _ _ _ _ c.args.units c.now-first.result c.start-manager.result c.start-manager.ensures))
+    c.requires.feeds
 
 pub hand_back-requires : goal.hand_back-requires
 hand_back-requires g c = record {
   room =
+      room_back _ _ _ c.args.plan.now c.args.feeds c.start-manager.result
+      (tended_first _ _ _ _ _ _ _ c.args.units c.now-first.result c.start-manager.result c.start-manager.ensures)
+      c.requires.feeds;
+}
+
+pub hand_back-requires-in-Err-Memory : goal.hand_back-requires-in-Err-Memory
+hand_back-requires-in-Err-Memory g c = record {
+  room =
       room_back _ _ _ c.args.plan.now c.args.feeds c.make_phases.new.self
       (tended_then _ _ _ _ _ c.start-manager.result c.make_phases.new.self c.make_phases.ensures.grow
-      (tended_first _ _ _ _ _ _ _ c.args.units c.now-first.result c.start-manager.result c.start-manager.ensures)) c.requires.feeds;
+      (tended_first _ _ _ _ _ _ _ c.args.units c.now-first.result c.start-manager.result c.start-manager.ensures))
+      c.requires.feeds;
 }
 
 pub find_fault-stop-requires-clause-fault : goal.find_fault-stop-requires-clause-fault
-find_fault-stop-requires-clause-fault g c = c.make_phases.ensures.fault (c.in-Err-Fault.is ∙ ap Err c.in-Err-Fault.field-0-is)
+find_fault-stop-requires-clause-fault g c =
+    c.make_phases.ensures.fault (c.in-Err-Fault.is ∙ ap Err c.in-Err-Fault.field-0-is)
 
 pub hand_back-requires-in-Err-Fault : goal.hand_back-requires-in-Err-Fault
 hand_back-requires-in-Err-Fault g c = record {
@@ -41,22 +52,35 @@ hand_back-requires-in-Err-Fault g c = record {
       room_back _ _ _ c.args.plan.now c.args.feeds c.find_fault-stop.new.self
       (tended_then _ _ _ _ _ c.make_phases.new.self c.find_fault-stop.new.self c.find_fault-stop.ensures.grow
       (tended_then _ _ _ _ _ c.start-manager.result c.make_phases.new.self c.make_phases.ensures.grow
-      (tended_first _ _ _ _ _ _ _ c.args.units c.now-first.result c.start-manager.result c.start-manager.ensures))) c.requires.feeds;
+      (tended_first _ _ _ _ _ _ _ c.args.units c.now-first.result c.start-manager.result c.start-manager.ensures)))
+      c.requires.feeds;
 }
+
+pub returns-in_default-clause-handed_back : goal.returns-in_default-clause-handed_back
+returns-in_default-clause-handed_back g c =
+    back_as _ _ _ c.args.plan.now c.args.feeds c.start-manager.result
+    (tended_first _ _ _ _ _ _ _ c.args.units c.now-first.result c.start-manager.result c.start-manager.ensures)
+    c.requires.feeds c.hand_back.result.feeds c.hand_back.ensures.feeds
+
+pub returns-in_default-clause-stands : goal.returns-in_default-clause-stands
+returns-in_default-clause-stands g c =
+    stand_as _ _ _ c.args.plan.now c.args.feeds c.start-manager.result
+    (tended_first _ _ _ _ _ _ _ c.args.units c.now-first.result c.start-manager.result c.start-manager.ensures)
+    c.requires.feeds c.hand_back.result.feeds c.hand_back.ensures.feeds
 
 pub returns-in-Ok-make_phases-clause-handed_back : goal.returns-in-Ok-make_phases-clause-handed_back
 returns-in-Ok-make_phases-clause-handed_back g c =
     back_as _ _ _ c.args.plan.now c.args.feeds c.make_phases.new.self
     (tended_then _ _ _ _ _ c.start-manager.result c.make_phases.new.self c.make_phases.ensures.grow
-    (tended_first _ _ _ _ _ _ _ c.args.units c.now-first.result c.start-manager.result c.start-manager.ensures)) c.requires.feeds
-    c.finish.result.feeds c.finish.ensures.feeds
+    (tended_first _ _ _ _ _ _ _ c.args.units c.now-first.result c.start-manager.result c.start-manager.ensures))
+    c.requires.feeds c.finish.result.feeds c.finish.ensures.feeds
 
 pub returns-in-Ok-make_phases-clause-stands : goal.returns-in-Ok-make_phases-clause-stands
 returns-in-Ok-make_phases-clause-stands g c =
     stand_as _ _ _ c.args.plan.now c.args.feeds c.make_phases.new.self
     (tended_then _ _ _ _ _ c.start-manager.result c.make_phases.new.self c.make_phases.ensures.grow
-    (tended_first _ _ _ _ _ _ _ c.args.units c.now-first.result c.start-manager.result c.start-manager.ensures)) c.requires.feeds
-    c.finish.result.feeds c.finish.ensures.feeds
+    (tended_first _ _ _ _ _ _ _ c.args.units c.now-first.result c.start-manager.result c.start-manager.ensures))
+    c.requires.feeds c.finish.result.feeds c.finish.ensures.feeds
 
 pub returns-in-Ok-make_phases-clause-done : goal.returns-in-Ok-make_phases-clause-done
 returns-in-Ok-make_phases-clause-done g c =
@@ -72,37 +96,37 @@ pub returns-in-Err-Memory-clause-handed_back : goal.returns-in-Err-Memory-clause
 returns-in-Err-Memory-clause-handed_back g c =
     back_as _ _ _ c.args.plan.now c.args.feeds c.make_phases.new.self
     (tended_then _ _ _ _ _ c.start-manager.result c.make_phases.new.self c.make_phases.ensures.grow
-    (tended_first _ _ _ _ _ _ _ c.args.units c.now-first.result c.start-manager.result c.start-manager.ensures)) c.requires.feeds
-    c.hand_back.result.feeds c.hand_back.ensures.feeds
+    (tended_first _ _ _ _ _ _ _ c.args.units c.now-first.result c.start-manager.result c.start-manager.ensures))
+    c.requires.feeds c.hand_back-in-Err-Memory.result.feeds c.hand_back-in-Err-Memory.ensures.feeds
 
 pub returns-in-Err-Memory-clause-stands : goal.returns-in-Err-Memory-clause-stands
 returns-in-Err-Memory-clause-stands g c =
     stand_as _ _ _ c.args.plan.now c.args.feeds c.make_phases.new.self
     (tended_then _ _ _ _ _ c.start-manager.result c.make_phases.new.self c.make_phases.ensures.grow
-    (tended_first _ _ _ _ _ _ _ c.args.units c.now-first.result c.start-manager.result c.start-manager.ensures)) c.requires.feeds
-    c.hand_back.result.feeds c.hand_back.ensures.feeds
+    (tended_first _ _ _ _ _ _ _ c.args.units c.now-first.result c.start-manager.result c.start-manager.ensures))
+    c.requires.feeds c.hand_back-in-Err-Memory.result.feeds c.hand_back-in-Err-Memory.ensures.feeds
 
-pub returns-in-Err-Fault-clause-handed_back : goal.returns-in-Err-Fault-clause-handed_back
-returns-in-Err-Fault-clause-handed_back g c =
+pub returns-clause-handed_back : goal.returns-clause-handed_back
+returns-clause-handed_back g c =
     back_as _ _ _ c.args.plan.now c.args.feeds c.find_fault-stop.new.self
     (tended_then _ _ _ _ _ c.make_phases.new.self c.find_fault-stop.new.self c.find_fault-stop.ensures.grow
     (tended_then _ _ _ _ _ c.start-manager.result c.make_phases.new.self c.make_phases.ensures.grow
-    (tended_first _ _ _ _ _ _ _ c.args.units c.now-first.result c.start-manager.result c.start-manager.ensures))) c.requires.feeds
-    c.hand_back-in-Err-Fault.result.feeds c.hand_back-in-Err-Fault.ensures.feeds
+    (tended_first _ _ _ _ _ _ _ c.args.units c.now-first.result c.start-manager.result c.start-manager.ensures)))
+    c.requires.feeds c.hand_back-in-Err-Fault.result.feeds c.hand_back-in-Err-Fault.ensures.feeds
 
-pub returns-in-Err-Fault-clause-stands : goal.returns-in-Err-Fault-clause-stands
-returns-in-Err-Fault-clause-stands g c =
+pub returns-clause-stands : goal.returns-clause-stands
+returns-clause-stands g c =
     stand_as _ _ _ c.args.plan.now c.args.feeds c.find_fault-stop.new.self
     (tended_then _ _ _ _ _ c.make_phases.new.self c.find_fault-stop.new.self c.find_fault-stop.ensures.grow
     (tended_then _ _ _ _ _ c.start-manager.result c.make_phases.new.self c.make_phases.ensures.grow
-    (tended_first _ _ _ _ _ _ _ c.args.units c.now-first.result c.start-manager.result c.start-manager.ensures))) c.requires.feeds
-    c.hand_back-in-Err-Fault.result.feeds c.hand_back-in-Err-Fault.ensures.feeds
+    (tended_first _ _ _ _ _ _ _ c.args.units c.now-first.result c.start-manager.result c.start-manager.ensures)))
+    c.requires.feeds c.hand_back-in-Err-Fault.result.feeds c.hand_back-in-Err-Fault.ensures.feeds
 
-pub returns-in-Err-Fault-clause-stopped : goal.returns-in-Err-Fault-clause-stopped
-returns-in-Err-Fault-clause-stopped g c =
+pub returns-clause-stopped : goal.returns-clause-stopped
+returns-clause-stopped g c =
     stopped_as _ _ _ c.args.plan.now c.args.feeds c.find_fault-stop.new.self
     (tended_then _ _ _ _ _ c.make_phases.new.self c.find_fault-stop.new.self c.find_fault-stop.ensures.grow
     (tended_then _ _ _ _ _ c.start-manager.result c.make_phases.new.self c.make_phases.ensures.grow
-    (tended_first _ _ _ _ _ _ _ c.args.units c.now-first.result c.start-manager.result c.start-manager.ensures))) c.requires.feeds
-    c.find_fault-stop.result c.hand_back-in-Err-Fault.result.outcome c.hand_back-in-Err-Fault.result.feeds
+    (tended_first _ _ _ _ _ _ _ c.args.units c.now-first.result c.start-manager.result c.start-manager.ensures)))
+    c.requires.feeds c.find_fault-stop.result c.hand_back-in-Err-Fault.result.outcome c.hand_back-in-Err-Fault.result.feeds
     c.hand_back-in-Err-Fault.ensures.outcome c.hand_back-in-Err-Fault.ensures.feeds c.find_fault-stop.ensures.told

@@ -35,7 +35,8 @@ hand_back-requires g c = record {
 }
 
 pub find_fault-stop-requires-clause-fault : goal.find_fault-stop-requires-clause-fault
-find_fault-stop-requires-clause-fault g c = c.make_rounds.ensures.fault (c.in-Err-Fault.is ∙ ap Err c.in-Err-Fault.field-0-is)
+find_fault-stop-requires-clause-fault g c =
+    c.make_rounds.ensures.fault (c.in-Err-Fault.is ∙ ap Err c.in-Err-Fault.field-0-is)
 
 pub hand_back-requires-in-Err-Fault : goal.hand_back-requires-in-Err-Fault
 hand_back-requires-in-Err-Fault g c = record {
