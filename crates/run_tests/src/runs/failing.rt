@@ -221,15 +221,15 @@ fn what_there_is_no_room_for_is_not_written(rt: HostRuntime) -> Result<(), Fail>
 #[test]
 fn a_line_that_can_not_be_said_changes_no_status(rt: HostRuntime) -> Result<(), Fail> {
     for (words, fail, status) in [
-        (["c", "o", "-k"], [1].as_slice(), Status::Words),
-        (["k", "o", "k"], &[2], Status::Plan),
-        (["c", "o", "c"], &[3], Status::Capture),
-        (["x", "o", "k"], &[2], Status::Read),
-        (["c", "o", "k"], &[3, 4], Status::Write),
+        (["c", "o", "-k"].as_slice(), [1].as_slice(), Status::Words),
+        (&["k", "o", "k"], &[2], Status::Plan),
+        (&["c", "o", "c"], &[3], Status::Capture),
+        (&["x", "o", "k"], &[2], Status::Read),
+        (&["c", "o", "k"], &[3, 4], Status::Write),
     ] {
         let given = [sound("c", FORWARDING.as_bytes()), sound("k", &CAPTURE)];
         let mut host = host_of(rt.alloc(), &given, fail, SPACE)?;
-        let left = play(&rt, &mut host, &words, Vec::new(rt.alloc()))?;
+        let left = play(&rt, &mut host, words, Vec::new(rt.alloc()))?;
         let shown = format!(in rt.alloc(); "{status:?}")?;
         compare(&rt, &host, left, refused(status, ""), &shown)?;
     }
