@@ -108,7 +108,7 @@ def name_of(path):
 def written():
     """The chain files that stand in docs/FORMATS.md."""
     with open("docs/FORMATS.md", encoding="utf-8") as file:
-        blocks = re.findall(r"```\n(\{.*?\})\n```", file.read(), re.S)
+        blocks = re.findall(r"```\n(\{\s*\"version\".*?\})\n```", file.read(), re.S)
     return [json.loads(block) for block in blocks]
 
 
