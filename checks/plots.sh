@@ -64,6 +64,13 @@ judge 'its pictures are no XML' is_xml shares
 judge 'a row of shares' has shares/shares.csv 1 '1,5000,costly,39,300,1,11700,19400,617'
 judge 'a point for each tick and function' has shares/weights.svg 24 '<circle '
 
+# The pictures that stand in docs/pictures are those of the examples as they are now.
+python3 tools/plot.py examples/47-slow-end-let-in/expected.txt "$room/let-in"
+for picture in held/outcomes held/posts let-in/outcomes shares/weights; do
+    kept=docs/pictures/$(echo "$picture" | tr / -).svg
+    judge "$kept is old" cmp "$kept" "$room/$picture.svg"
+done
+
 cat "$held" "$shares" >"$room/both"
 judge 'two reports' ends_with 1 python3 tools/plot.py "$room/both" "$room/none"
 judge 'a fault line' ends_with 1 python3 tools/plot.py examples/05-missing-keys/expected.txt "$room/none"
