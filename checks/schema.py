@@ -136,6 +136,29 @@ def beyond():
             yield key, part["maximum"] + 1
 
 
+def as_number(text):
+    base, _, power = text.replace(",", "").partition("^")
+    return int(base) ** int(power or 1)
+
+
+def documented():
+    """The rows of FORMATS.md's tables of keys: key, range and default, the last two as text."""
+    with open("docs/FORMATS.md", encoding="utf-8") as file:
+        section = file.read().partition("## The chain file")[2].partition("A chain has `name`")[0]
+    for key, text, default in re.findall(r"^\| `(\w+)` \| (.*) \| (.*) \|$", section, re.M):
+        found = re.search(r"([\d,]+) to ([\d,^]*\d)", text)
+        if found:
+            yield key, as_number(found[1]), as_number(found[2]), default
+
+
+def is_documented(key, low, high, default):
+    """Whether the schema has a key's range, of a number or of a list's length, and its default."""
+    part = {**SCHEMA["$defs"]["function"]["properties"], **SCHEMA["properties"]}[key]
+    ranges = [part.get("minimum", part.get("minItems", 0)), part.get("maximum", part.get("maxItems"))]
+    same = not re.fullmatch(r"[\d,]+", default) or as_number(default) == part.get("default")
+    return ranges == [low, high] and same
+
+
 def checks():
     """What was checked, and whether it is as it should be."""
     faulty = glob.glob("examples/39-refused-chain-files/*.json")
@@ -146,6 +169,10 @@ def checks():
         wanted = name_of(path) in UNTOLD
         yield f"{path} {'does not fit' if wanted else 'fits'}", fits(SCHEMA, read(path)) == wanted
     yield "examples/05-missing-keys/chain.json fits", not fits(SCHEMA, read("examples/05-missing-keys/chain.json"))
+    rows = list(documented())
+    yield "docs/FORMATS.md has fewer ranges than it had", len(rows) >= 18
+    for row in rows:
+        yield f"the range or default of {row[0]} is not documented", is_documented(*row)
     plans = written()
     yield "docs/FORMATS.md has not two chain files", len(plans) == 2
     for plan in plans:
