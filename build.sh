@@ -1,8 +1,8 @@
 #!/bin/sh
 # build.sh [CRATE]: proves, compiles and links a program, onvm_main where none is named, as
 # crates/CRATE/out/CRATE. It says a line for each crate on standard error, and keeps all that the
-# prover says in crates/CRATE/out/build.log. The status is 0 exactly where the program stands there at
-# the end.
+# prover says in crates/CRATE/out/build.log, and in crates/CRATE/out/version what was proved with which
+# kit. The status is 0 exactly where the program stands there at the end.
 program=${1:-onvm_main}
 cd "$(dirname "$0")" || exit 1
 command -v rt >/dev/null || {
@@ -32,9 +32,17 @@ give_up() {
     exit 1
 }
 
+# What of the sources was there when the build began, and which kit.
+commit() {
+    git rev-parse --short=12 HEAD 2>/dev/null || echo unknown
+    [ -z "$(git status --porcelain 2>/dev/null)" ] || echo 'with changes'
+}
+version="commit $(commit | tr '\n' ' ')
+$(rt version)"
+
 # The program that an earlier build left must not be taken for this one's.
 mkdir -p "$out"
-rm -f "$out/$program"
+rm -f "$out/$program" "$out/version"
 : >"$log"
 echo "build.sh: proving and building $program; the first time that takes some minutes" >&2
 for crate in $(below); do
@@ -46,4 +54,5 @@ done
 # status 2. So neither its output nor its status says anything of the build.
 (cd "crates/$program" && rt run) </dev/null >>"$log" 2>&1
 [ -x "$out/$program" ] || give_up "$program"
+echo "$version" >"$out/version"
 echo "build.sh: $program is proved and built" >&2

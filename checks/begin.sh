@@ -2,7 +2,11 @@
 # of its own, $room, and counts from 0 what passed and what is wrong. Where ONVM_PROGRAM names a
 # program, ./onvm becomes that one, and nothing is built.
 cd "$(dirname "$0")/.." || exit 1
-[ -n "${ONVM_PROGRAM:-}" ] || make --no-print-directory -s build || exit 1
+if [ -z "${ONVM_PROGRAM:-}" ]; then
+    make --no-print-directory -s build || exit 1
+    # so that ./onvm doesn't look for newer sources in each run
+    export ONVM_PROGRAM="$PWD/crates/onvm_main/out/onvm_main"
+fi
 room=$(mktemp -d) || exit 1
 trap 'rm -rf "$room"' EXIT
 passed=0

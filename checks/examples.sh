@@ -1,6 +1,7 @@
 #!/bin/sh
-# Replays every example with ./onvm, and compares what it emits, says and answers with what is
-# expected. Prints what is wrong and ends with status 1, or else prints how many passed.
+# examples.sh [FOLDER..]: replays these examples, or every one, with ./onvm, and compares what it emits,
+# says and answers with what is expected. Prints what is wrong and ends with status 1, or else prints how
+# many passed.
 #
 # An example is a folder. Each line of its file command is a run, and the word OUT stands there for a
 # file of this check's own. expected.txt is what the runs say, one behind the other. Each of them emits
@@ -39,7 +40,8 @@ try() {
     emits_well || complain "it emits something else: $line"
 }
 
-for folder in examples/*/; do
+[ "$#" -gt 0 ] || set -- examples/*/
+for folder; do
     folder=${folder%/}
     well=true
     wanted=0
