@@ -51,6 +51,7 @@ done
 # Each of 4 * 300 frames has one record, in order; for each outcome there are as many records as the summary
 # says; and these numbers add up to all frames.
 accounted='
+BEGIN { port = "none" }
 /^record / {
     if ($2 == port) { number++ } else { port = $2; number = 1; ports++ }
     if ($3 != number) { print "record " $2 " " $3 " out of place"; bad = 1 }

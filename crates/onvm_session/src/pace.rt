@@ -17,11 +17,11 @@ use std::{thread, time};
 
 // A role that has nothing to do looks so often in a row for something, then lets others run so often
 // between its looks, and sleeps between further ones.
-const SPINS: u32 = 64;
+const SPINS: u32 = 16;
 
 const YIELDS: u32 = 4096;
 
-const SLEEPS: u32 = 20_000;
+const SLEEPS: u32 = 10_000;
 
 // How long a role sleeps between two looks, in microseconds.
 const NAP: u64 = 50;
@@ -40,10 +40,12 @@ pub struct Pace {
     // How many receive roles have pulled all their frames.
     ended: AtomicU64,
     over: AtomicBool,
-    // How many passes of receive and transmit roles brought frames to functions, and how many of cores
-    // handled some.
+    // How many passes receive roles made, and how many frames came into lanes, were handled, and were
+    // taken from output rings.
+    receives: AtomicU64,
     fed: AtomicU64,
     handled: AtomicU64,
+    moved: AtomicU64,
 }
 
 /// What a role knew before its last pass of this phase.
@@ -53,9 +55,11 @@ pub struct Stride {
     recorded: u64,
     // So many frames it may pull.
     reserved: u64,
-    // How many passes that may have brought it something there were.
+    // It made no pass in this phase.
+    fresh: bool,
+    // What others had done that may give it something to do.
     seen: u64,
-    // Its last pass did as much as it may, so there may be more to do.
+    // Its last pass moved frames, so there may be more of them.
     busy: bool,
     ended: bool,
 }
@@ -73,8 +77,10 @@ impl Pace {
             under_way: AtomicU64::new(0),
             ended: AtomicU64::new(0),
             over: AtomicBool::new(false),
+            receives: AtomicU64::new(0),
             fed: AtomicU64::new(0),
             handled: AtomicU64::new(0),
+            moved: AtomicU64::new(0),
         }
     }
 
@@ -112,8 +118,9 @@ impl Pace {
             pulled: u64::from(role.pulled()),
             recorded: role.recorded(),
             reserved: 0,
+            fresh: true,
             seen: 0,
-            busy: true,
+            busy: false,
             ended,
         }
     }
@@ -146,14 +153,22 @@ impl Pace {
 
     // Whether the next pass may find something to do. A receive role may pull a burst then.
     fn has_work<I, N>(&self, role: &Role<I, N>, stride: &mut Stride) -> bool {
-        let came = match role {
-            Role::Receive(_) if !stride.ended => return self.reserve(stride),
-            Role::Handle(_) => self.fed.load(Ordering::SeqCst),
-            Role::Receive(_) | Role::Send(_) | Role::Tick(_) => self.handled.load(Ordering::SeqCst),
-        };
-        let has_work = stride.busy || came != stride.seen;
-        stride.seen = came;
-        has_work
+        let fed = self.fed.load(Ordering::SeqCst);
+        let handled = self.handled.load(Ordering::SeqCst);
+        let moved = self.moved.load(Ordering::SeqCst);
+        match role {
+            Role::Receive(_) if !stride.ended => self.reserve(stride),
+            Role::Handle(_) => {
+                let came = stride.notices(fed.wrapping_add(moved));
+                stride.fresh || (is_behind(handled, fed) && (stride.busy || came))
+            }
+            Role::Receive(_) | Role::Send(_) | Role::Tick(_) => {
+                // Also where nothing was handled: a feeder's mark is lowered in its passes alone.
+                let received = self.receives.load(Ordering::SeqCst);
+                let came = stride.notices(handled.wrapping_add(received));
+                stride.fresh || came || (stride.busy && is_behind(moved, handled))
+            }
+        }
     }
 
     // Whether there is room for a burst.
@@ -189,14 +204,25 @@ impl Pace {
             Pass::Did(did) => u64::from(did),
             Pass::Idle | Pass::Wanting | Pass::Stopped => 0,
         };
+        stride.fresh = false;
+        stride.busy = false;
         match role {
-            Role::Receive(_) | Role::Send(_) if did > gone => {
-                self.fed.fetch_add(1, Ordering::SeqCst);
+            Role::Receive(_) => {
+                self.fed
+                    .fetch_add(did.saturating_sub(gone), Ordering::SeqCst);
+                self.receives.fetch_add(1, Ordering::SeqCst);
             }
-            Role::Handle(_) if did > 0 => {
-                self.handled.fetch_add(1, Ordering::SeqCst);
+            Role::Send(_) => {
+                self.moved.fetch_add(did, Ordering::SeqCst);
+                self.fed
+                    .fetch_add(did.saturating_sub(gone), Ordering::SeqCst);
+                stride.busy = did > 0;
             }
-            _ => {}
+            Role::Handle(_) => {
+                self.handled.fetch_add(did, Ordering::SeqCst);
+                stride.busy = did > 0;
+            }
+            Role::Tick(_) => {}
         }
         if let Role::Receive(role) = role
             && !stride.ended
@@ -205,8 +231,23 @@ impl Pace {
             stride.ended = true;
             self.ended.fetch_add(1, Ordering::SeqCst);
         }
-        stride.busy = did >= self.burst;
     }
+}
+
+impl Stride {
+    // Whether this isn't what the role saw before. It is what it has seen from now on.
+    fn notices(&mut self, now: u64) -> bool {
+        let is_new = now != self.seen;
+        self.seen = now;
+        is_new
+    }
+}
+
+// Whether a count is below another one, where they differ by less than 2^63. What is counted at the end
+// of a pass may be counted behind what comes of it.
+fn is_behind(count: u64, other: u64) -> bool {
+    let ahead = other.wrapping_sub(count);
+    ahead > 0 && ahead < 1 << 63
 }
 
 // Lets others go on between two looks. The tick role always sleeps: nobody waits for it, and a mail ring
