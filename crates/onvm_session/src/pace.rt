@@ -10,15 +10,12 @@
 use crate::role::Role;
 use onvm_base::Plan;
 use onvm_promises::Pass;
-use std::hint::spin_loop;
 use std::sync::atomic::{AtomicBool, AtomicU64, Ordering};
 use std::time::Duration;
 use std::{thread, time};
 
-// A role that has nothing to do looks so often in a row for something, then lets others run so often
-// between its looks, and sleeps between further ones.
-const SPINS: u32 = 16;
-
+// A role that has nothing to do lets others run so often between its looks for something, and sleeps
+// between further ones. To look without a rest in between is worse wherever roles outnumber processors.
 const YIELDS: u32 = 4096;
 
 const SLEEPS: u32 = 10_000;
@@ -132,7 +129,7 @@ impl Pace {
         role: &Role<I, N>,
         stride: &mut Stride,
     ) -> bool {
-        for turn in 0..SPINS + YIELDS + SLEEPS {
+        for turn in 0..YIELDS + SLEEPS {
             if self.is_over() {
                 return false;
             }
@@ -254,8 +251,7 @@ fn is_behind(count: u64, other: u64) -> bool {
 // holds 64 samples.
 fn rest<T: time::Clock, I, N>(rt: &T, role: &Role<I, N>, turn: u32) {
     match role {
-        Role::Receive(_) | Role::Send(_) | Role::Handle(_) if turn < SPINS => spin_loop(),
-        Role::Receive(_) | Role::Send(_) | Role::Handle(_) if turn < SPINS + YIELDS => {
+        Role::Receive(_) | Role::Send(_) | Role::Handle(_) if turn < YIELDS => {
             thread::yield_now();
         }
         _ => thread::sleep(rt, Duration::from_micros(NAP)),
