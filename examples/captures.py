@@ -2,16 +2,13 @@
 """Writes the captures of examples 42 to 45 anew, each beside its chain file: the same bytes as those there."""
 import os
 import struct
+import sys
 
 HERE = os.path.dirname(os.path.abspath(__file__))
+sys.path.insert(0, os.path.join(os.path.dirname(HERE), "checks", "model"))
+from captures import ones_sum  # noqa: E402 - the model's own module, of the same name as this file.
+
 HOST, SERVER = "020000000001", "020000000002"
-
-
-def ones_sum(data):
-    total = sum(struct.unpack(f">{len(data) // 2}H", data))
-    while total > 0xFFFF:
-        total = total % 65536 + total // 65536
-    return total
 
 
 def address(text):
