@@ -62,9 +62,9 @@ impl Gathered {
         ensures yields { self.new.yields ≡ self.old.yields }
         ensures lost { self.new.lost ≡ self.old.lost }
     {
-        self.records.append(&mut records.into_vec())?;
-        self.sent.append(&mut sent.into_vec())?;
-        self.posts.append(&mut posts.into_vec())?;
+        append(&mut self.records, records.into_vec())?;
+        append(&mut self.sent, sent.into_vec())?;
+        append(&mut self.posts, posts.into_vec())?;
         Ok(())
     }
 
@@ -119,4 +119,17 @@ fn key(port: u8, number: u32) -> u64
     ensures { result ≡ port * 2 ^ 32 + number }
 {
     u64::from(port) * (1 << 32) + u64::from(number)
+}
+
+// Appends a list. One that is empty takes the other over, so that the lists of a run with one port
+// aren't copied.
+fn append<T>(list: &mut Vec<T>, mut more: Vec<T>) -> Result<(), NoMemory>
+    ensures { OnOk result (list.new.items ≡ list.old.items ++ more.items) }
+{
+    if list.is_empty() {
+        *list = more;
+        return Ok(());
+    }
+    list.append(&mut more)?;
+    Ok(())
 }

@@ -1,5 +1,5 @@
 //! Records and sent frames.
-ghost use Rattle.std.specs.Prelude.{◌≡◌, ◌∷◌, ◌++◌, [], ℕ, suc, OnOk};
+ghost use Rattle.std.specs.Prelude.{◌≡◌, ◌≤◌, ◌+◌, ◌∷◌, ◌++◌, [], ℕ, suc, OnOk, vec_capacity, vec_len};
 ghost use Rattle.tx_pass.specs.Keeping.{HasRoom};
 
 use onvm_base::{NoMemory, Outcome, Record, SentFrame};
@@ -29,8 +29,8 @@ impl Kept {
         ensures sent { self.new.sent.items ≡ self.old.sent.items }
         ensures room { OnOk result (HasRoom more self.new) }
     {
-        self.records.reserve(more)?;
-        self.sent.reserve(more)?;
+        reserve(&mut self.records, more)?;
+        reserve(&mut self.sent, more)?;
         Ok(())
     }
 
@@ -58,4 +58,19 @@ impl Kept {
         });
         self.sent.push_reserved(sent);
     }
+}
+
+// Makes room for so many more. A list that grows is copied, and both lists grow to hundreds of thousands
+// of items: so where it must grow, it grows to eight times its length, and to what is wanted where there
+// is no memory for that.
+fn reserve<T>(list: &mut Vec<T>, more: usize) -> Result<(), NoMemory>
+    ensures items { list.new.items ≡ list.old.items }
+    ensures room { OnOk result (vec_len list.new + more ≤ vec_capacity list.new) }
+{
+    let much = list.len().saturating_mul(7).max(more);
+    if list.capacity() - list.len() < more && list.reserve(much).is_ok() {
+        return Ok(());
+    }
+    list.reserve(more)?;
+    Ok(())
 }
