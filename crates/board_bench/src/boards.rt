@@ -16,7 +16,7 @@ use onvm_base::{
 };
 use onvm_board::{Board, Spot, Token};
 use onvm_core::{Crumb, Layout, Parcel, Trail, Word};
-use onvm_host::SysClock;
+use onvm_files::SysClock;
 use std::alloc::Global;
 
 /// Cells of a lane and of an output ring, and buffers.

@@ -10,7 +10,7 @@ mod locked;
 use boards::{measure_calls, measure_hops, measure_mails};
 use locked::cost_of_locked;
 use onvm_base::NoMemory;
-use onvm_host::SysClock;
+use onvm_files::SysClock;
 use std::env;
 use std::process::ExitCode;
 

@@ -9,7 +9,7 @@ use chain_file::read;
 use chain_texts::text_of;
 use cost::{Cost, cost_of, tenths};
 use onvm_base::NoMemory;
-use onvm_host::SysClock;
+use onvm_files::SysClock;
 use std::env;
 use std::process::ExitCode;
 

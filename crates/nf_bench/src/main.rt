@@ -16,7 +16,7 @@ use kinds::{balance, filter, route};
 use nf_api::NetFunction;
 use nf_steady::Steady;
 use onvm_base::NoMemory;
-use onvm_host::SysClock;
+use onvm_files::SysClock;
 use std::env;
 use std::process::ExitCode;
 

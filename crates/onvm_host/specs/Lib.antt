@@ -7,5 +7,4 @@ pub mod Names
 pub mod Pieces
 pub mod Story
 pub mod Tally
-pub mod Target
 pub mod Written

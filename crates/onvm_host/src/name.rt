@@ -5,7 +5,7 @@ use onvm_base::{ListOf, Name, NoMemory};
 use std::alloc::Global;
 
 /// A copy of a name.
-pub(crate) fn copy_of(alloc: Global, name: &str) -> Result<Name, NoMemory>
+pub fn copy_of(alloc: Global, name: &str) -> Result<Name, NoMemory>
     ensures { IfOk result (λ copy. copy ≡ name.now) }
 {
     ListOf::from_slice(alloc, name.as_bytes())

@@ -10,9 +10,9 @@ ghost use Rattle.onvm_host.specs.Story.{amounts_of, deeds_of};
 use onvm_base::{Failed, Name};
 use std::snapshot::Snapshot;
 
-/// How much each take gave, or each put took.
+/// How much each take gave, or each put took. An input or an output begins with `None`.
 #[derive(Drop)]
-pub(crate) enum Amounts {
+pub enum Amounts {
     None,
     Moved {
         before: Snapshot<Amounts>,
@@ -23,7 +23,7 @@ pub(crate) enum Amounts {
 impl Amounts {
     /// Remembers a take or a put, and hands its answer on.
     #[inline]
-    pub(crate) fn add(&mut self, answer: Result<usize, Failed>) -> Result<usize, Failed>
+    pub fn add(&mut self, answer: Result<usize, Failed>) -> Result<usize, Failed>
         ensures same { result ≡ answer }
         ensures added { amounts_of self.new ≡ amounts_of self.old ++ result_ok answer ∷ [] }
     {
@@ -36,9 +36,9 @@ impl Amounts {
     }
 }
 
-/// The calls of a host.
+/// The calls of a host, which begins with `Begin`.
 #[derive(Drop)]
-pub(crate) enum Story {
+pub enum Story {
     Begin,
     Opened {
         before: Snapshot<Story>,
@@ -78,7 +78,8 @@ pub(crate) enum Story {
 }
 
 impl Story {
-    pub(crate) fn opened(&mut self, name: &Name)
+    /// Remembers that a file was opened.
+    pub fn opened(&mut self, name: &Name)
         ensures { deeds_of self.new ≡ deeds_of self.old ++ Opened name.now ∷ [] }
     {
         *self = Story::Opened {
@@ -87,7 +88,8 @@ impl Story {
         };
     }
 
-    pub(crate) fn open_failed(&mut self, name: &Name)
+    /// Remembers that a file was not opened.
+    pub fn open_failed(&mut self, name: &Name)
         ensures { deeds_of self.new ≡ deeds_of self.old ++ OpenFailed name.now ∷ [] }
     {
         *self = Story::OpenFailed {
@@ -96,7 +98,8 @@ impl Story {
         };
     }
 
-    pub(crate) fn shut(&mut self, name: &Name, takes: &Amounts)
+    /// Remembers that an input was shut, and its takes.
+    pub fn shut(&mut self, name: &Name, takes: &Amounts)
         ensures { deeds_of self.new
             ≡ deeds_of self.old ++ Shut name.now (amounts_of takes.now) ∷ [] }
     {
@@ -107,7 +110,8 @@ impl Story {
         };
     }
 
-    pub(crate) fn created(&mut self, name: &Name)
+    /// Remembers that an output was made.
+    pub fn created(&mut self, name: &Name)
         ensures { deeds_of self.new ≡ deeds_of self.old ++ Created name.now ∷ [] }
     {
         *self = Story::Created {
@@ -116,7 +120,8 @@ impl Story {
         };
     }
 
-    pub(crate) fn create_failed(&mut self, name: &Name)
+    /// Remembers that an output was not made.
+    pub fn create_failed(&mut self, name: &Name)
         ensures { deeds_of self.new ≡ deeds_of self.old ++ CreateFailed name.now ∷ [] }
     {
         *self = Story::CreateFailed {
@@ -126,7 +131,7 @@ impl Story {
     }
 
     /// Remembers a keep, and hands its answer on.
-    pub(crate) fn kept(
+    pub fn kept(
         &mut self,
         name: &Name,
         puts: &Amounts,
@@ -147,7 +152,7 @@ impl Story {
     }
 
     /// Remembers that something was said, and hands the answer on.
-    pub(crate) fn said(&mut self, answer: Result<usize, Failed>) -> Result<usize, Failed>
+    pub fn said(&mut self, answer: Result<usize, Failed>) -> Result<usize, Failed>
         ensures same { result ≡ answer }
         ensures added { deeds_of self.new ≡ deeds_of self.old ++ Said (result_ok answer) ∷ [] }
     {

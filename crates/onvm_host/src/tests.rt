@@ -1,10 +1,8 @@
 //! What no clause says.
 use crate::{
-    Calls, Clock, FileHost, Host, HostFault, MemFile, MemFiles, MemHost, Sink, Source, SysClock,
-    have_distinct_names,
+    Calls, Host, HostFault, MemFile, MemFiles, MemHost, Sink, Source, have_distinct_names,
 };
 use onvm_base::{Failed, ListOf, Text};
-use std::process;
 use std::test::Fail;
 
 fn text(rt: HostRuntime, bytes: &[u8]) -> Result<Text, Fail> {
@@ -70,42 +68,6 @@ fn a_host_in_memory_gives_what_was_written(rt: HostRuntime) -> Result<(), Fail> 
     assert_eq!(rt; host.open_input("i").err(), Some(HostFault::Failed));
     assert_eq!(rt; host.say(&[5, 6]), Ok(2));
     assert_eq!(rt; host.said(), [5, 6].as_slice());
-    Ok(())
-}
-
-#[test]
-fn a_real_file_gives_what_was_written(rt: HostRuntime) -> Result<(), Fail> {
-    let mut host = FileHost::make(rt);
-    let mut into = [0u8; 4];
-    // Two runs of this test at once, as in two checkouts, have two files.
-    let number = process::id(rt.process());
-    let name = format!(in rt.alloc();
-        "/tmp/onvm_host_a_real_file_gives_what_was_written_{number}"
-    )?;
-    let name = name.as_str();
-    assert_eq!(rt;
-        write_and_read(&mut host, name, &[7, 8, 9, 10, 11], &mut into)?,
-        (5, 4)
-    );
-    assert_eq!(rt; into, [7, 8, 9, 10]);
-    assert_eq!(rt; write_and_read(&mut host, name, &[12], &mut into)?, (1, 1));
-    assert_eq!(rt; into, [12, 8, 9, 10]);
-    std::fs::remove_file(&rt, name)?;
-    assert_eq!(rt; host.open_input(name).err(), Some(HostFault::Failed));
-    assert_eq!(rt; host.create_output("/tmp").err(), Some(HostFault::Failed));
-    assert_eq!(rt; host.say(b"onvm_host\n"), Ok(10));
-    Ok(())
-}
-
-// The system has the same standard output under each of these names.
-#[test]
-fn standard_output_is_an_output(rt: HostRuntime) -> Result<(), Fail> {
-    let mut host = FileHost::make(rt);
-    for name in ["/dev/stdout", "/dev/fd/1", "/proc/self/fd/1"] {
-        let mut output = host.create_output(name)?;
-        assert_eq!(rt; output.put(b"onvm_host\n"), Ok(10));
-        assert_eq!(rt; host.keep(output), Ok(()));
-    }
     Ok(())
 }
 
@@ -203,14 +165,4 @@ fn two_files_of_one_name_are_seen(rt: HostRuntime) -> Result<(), Fail> {
     files.push(file(rt, "in", &[2], &[])?)?;
     assert!(rt; !have_distinct_names(&files));
     Ok(())
-}
-
-#[test]
-fn a_moment_is_not_before_an_earlier_one(rt: HostRuntime) {
-    let clock = SysClock::make(rt);
-    let first = clock.now();
-    let second = clock.now();
-    assert!(rt; 0 < first && first <= second);
-    assert!(rt; clock.span(first, 0) >= second - first);
-    assert_eq!(rt; clock.span(u64::MAX, 7), 0);
 }

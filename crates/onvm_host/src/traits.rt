@@ -81,7 +81,8 @@ pub trait Host {
         ensures names { SameNames (may_open self.old) (may_create self.old) (may_open self.new) (may_create self.new) }
         ensures told { deeds self.new ≡ deeds self.old ++ made_or_failed (Opened name.now) (OpenFailed name.now) result };
 
-    /// Makes an empty file.
+    /// Begins an output, which holds nothing. A host that tells its files has an empty one under the
+    /// name from here on. Another may leave what is there until the output is kept.
     fn create_output(&mut self, name: &str) -> Result<Self::Output, HostFault>
         requires { may_create self.old name.now }
         ensures made { IfOk result (λ _. files self.new ≡ option_map (put_file name.now []) (files self.old)) }
@@ -100,8 +101,9 @@ pub trait Host {
         ensures names { SameNames (may_open self.old) (may_create self.old) (may_open self.new) (may_create self.new) }
         ensures told { deeds self.new ≡ deeds self.old ++ Shut (Self.Input.name input) (Self.Input.takes input) ∷ [] };
 
-    /// Leaves under the output's name what it holds, also where it answers Failed. A failed put is
-    /// a fault of this call too, whatever it answers.
+    /// Gives the output's name to what it holds. A host that tells its files does so also where it
+    /// answers Failed. Another may then leave what was under the name before, and it may answer
+    /// Failed because a put did. A failed put is a fault of this call too, whatever it answers.
     fn keep(&mut self, output: Self::Output) -> Result<(), Failed>
         ensures files { files self.new ≡ kept_files (Self.Output.name output) (Self.Output.held output) (files self.old) }
         ensures said { said self.new ≡ said self.old }

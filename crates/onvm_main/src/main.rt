@@ -4,7 +4,8 @@
 use nf_api::{Guest, NetFunction};
 use nf_guests::{Flip, Mirror};
 use onvm_base::{Name, NoMemory, Status};
-use onvm_host::{FileHost, OpenGate, SysClock};
+use onvm_files::{FileHost, SysClock};
+use onvm_host::OpenGate;
 use onvm_top::run;
 use std::alloc::Global;
 use std::io::{self, ErrorKind};

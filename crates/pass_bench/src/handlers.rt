@@ -19,7 +19,8 @@ use nf_steady::Steady;
 use onvm_base::{ListOf, NoMemory, Plan};
 use onvm_board::{Board, Token};
 use onvm_core::Layout;
-use onvm_host::{Clock, SysClock};
+use onvm_files::SysClock;
+use onvm_host::Clock;
 use onvm_promises::Pass;
 use std::alloc::Global;
 

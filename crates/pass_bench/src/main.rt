@@ -17,7 +17,7 @@ use handlers::measure_cores;
 use onvm_base::NoMemory;
 use onvm_board::Board;
 use onvm_core::Layout;
-use onvm_host::SysClock;
+use onvm_files::SysClock;
 use passes::cost_of_passes;
 use plans::plan;
 use receiving::measure_receiving;

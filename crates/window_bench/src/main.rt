@@ -7,7 +7,7 @@ mod course;
 use cost::cost_of;
 use course::Course;
 use onvm_base::NoMemory;
-use onvm_host::SysClock;
+use onvm_files::SysClock;
 use std::env;
 use std::process::ExitCode;
 

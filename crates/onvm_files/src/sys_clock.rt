@@ -1,7 +1,7 @@
 //! A clock that reads the time.
 ghost use Rattle.std.specs.Prelude.{⊤};
 
-use crate::clock::Clock;
+use onvm_host::Clock;
 use std::time;
 use std::time::Instant;
 

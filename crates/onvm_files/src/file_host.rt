@@ -5,13 +5,10 @@ ghost use Rattle.std.specs.Io.KnownBytes.{ReadConsumes, WriteAppends};
 ghost use Rattle.std.specs.IoError.{error_kind};
 ghost use Rattle.std.specs.Result.{result_ok};
 ghost use Rattle.onvm_host.specs.Story.{amounts_of, deeds_of};
-ghost use Rattle.onvm_host.specs.Target.{IsStandardOutput, IsTargetOf};
+ghost use Rattle.onvm_files.specs.Target.{IsStandardOutput, IsTargetOf};
 
-use crate::fault::HostFault;
-use crate::name::copy_of;
-use crate::story::{Amounts, Story};
-use crate::traits::{Host, Sink, Source};
 use onvm_base::{Failed, Name};
+use onvm_host::{Amounts, Host, HostFault, Sink, Source, Story, copy_of};
 use std::fs::File;
 use std::io;
 use std::io::{BufWriter, ErrorKind, Print, Read, Write};
@@ -61,7 +58,7 @@ enum Target<F, P> {
 }
 
 impl<F: Write + Drop, P: Print + Drop> Write for Target<F, P> {
-    ghost use Rattle.onvm_host.specs.Target.{contents_of};
+    ghost use Rattle.onvm_files.specs.Target.{contents_of};
 
     ghost contents = { contents_of F.contents };
 
@@ -246,7 +243,7 @@ where
 
 // How much of a piece was taken. That nothing was, of a piece that is not empty, is a failed call.
 #[inline]
-#[tactic(auto, using(crate::proofs::Bytes::nothing_appended))]
+#[tactic(auto, using(onvm_host::proofs::Bytes::nothing_appended))]
 fn count_of(answer: io::Result<usize>, piece: &[u8]) -> Result<usize, Failed>
     requires { WritesAtMost answer piece.now }
     ensures bound { WritesAtMost result piece.now }

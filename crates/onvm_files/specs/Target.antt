@@ -1,7 +1,7 @@
 -- Where the bytes of an output over a runtime go.
 use Rattle.std.specs.Prelude.{◌≡◌, ◌⊎◌, ℕ, List, Option, None, codes}
-use Rattle.onvm_host.specs.declared.file_host.Target.{Target}
-use Rattle.onvm_host.specs.declared.file_host.Target.TheVariants.{Unmade, File, Standard}
+use Rattle.onvm_files.specs.declared.file_host.Target.{Target}
+use Rattle.onvm_files.specs.declared.file_host.Target.TheVariants.{Unmade, File, Standard}
 
 -- what a target holds, where its file tells it
 abbrev pub contents_of : {F P : Type 0} → (F → Option (List ℕ)) → Target F P → Option (List ℕ)
