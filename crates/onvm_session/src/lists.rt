@@ -123,7 +123,7 @@ fn key(port: u8, number: u32) -> u64
 
 // Appends a list. One that is empty takes the other over, so that the lists of a run with one port
 // aren't copied.
-fn append<T>(list: &mut Vec<T>, mut more: Vec<T>) -> Result<(), NoMemory>
+fn append<T: Drop>(list: &mut Vec<T>, mut more: Vec<T>) -> Result<(), NoMemory>
     ensures { OnOk result (list.new.items ≡ list.old.items ++ more.items) }
 {
     if list.is_empty() {

@@ -8,20 +8,39 @@
 //! Each wait is bounded: a role that waited for long goes on.
 
 use crate::role::Role;
+use crossbeam_utils::CachePadded;
 use onvm_base::Plan;
 use onvm_promises::Pass;
+use std::sync::Wait;
 use std::sync::atomic::{AtomicBool, AtomicU64, Ordering};
 use std::time::Duration;
 use std::{thread, time};
 
-// A role that has nothing to do lets others run so often between its looks for something, and sleeps
-// between further ones. To look without a rest in between is worse wherever roles outnumber processors.
+/// The most passes of a role in a phase.
+pub const MOST_PASSES: u32 = 1024;
+
+// A role that has nothing to do lets others run so often between its looks for something. To look
+// without a rest in between is worse wherever roles outnumber processors.
 const YIELDS: u32 = 4096;
 
-const SLEEPS: u32 = 10_000;
+// Then it sleeps until a bell rings, at most so often and so long, in microseconds.
+const SLEEPS: u32 = 1000;
 
-// How long a role sleeps between two looks, in microseconds.
-const NAP: u64 = 50;
+const NAP: u64 = 1000;
+
+// Where to let others run took longer than this, in microseconds, programs beside this one want the
+// processor, and each yield would give them a whole slice of its time. Who sleeps gets it back at once
+// where a bell rings: so the role's next waits, so many of them, begin with sleep.
+const SLICE: u64 = 500;
+
+const CROWDED_WAITS: u32 = 1024;
+
+// How long the tick role sleeps between two looks, in microseconds. Nobody waits for it, and a mail ring
+// holds 64 samples.
+const TICK_NAP: u64 = 200;
+
+// Each on cache lines of its own, since roles count beside each other.
+type Counter = CachePadded<AtomicU64>;
 
 /// What roles tell each other of how far they are.
 #[derive(Drop)]
@@ -33,16 +52,30 @@ pub struct Pace {
     // The phase's number, from 1.
     phase: u64,
     // The frames that were pulled and have no record, and those that receive roles are about to pull.
-    under_way: AtomicU64,
+    under_way: Counter,
     // How many receive roles have pulled all their frames.
-    ended: AtomicU64,
-    over: AtomicBool,
+    ended: Counter,
+    over: CachePadded<AtomicBool>,
     // How many passes receive roles made, and how many frames came into lanes, were handled, and were
     // taken from output rings.
-    receives: AtomicU64,
-    fed: AtomicU64,
-    handled: AtomicU64,
-    moved: AtomicU64,
+    receives: Counter,
+    fed: Counter,
+    handled: Counter,
+    moved: Counter,
+    // There are fewer frames on their way.
+    room: Bell,
+    // There may be frames in lanes, or room in output rings.
+    work: Bell,
+    // There may be frames in output rings, or a mark to lower.
+    output: Bell,
+}
+
+// What wakes roles that sleep.
+#[derive(Drop)]
+struct Bell {
+    // How often it rang.
+    rung: Counter,
+    sleepers: Counter,
 }
 
 /// What a role knew before its last pass of this phase.
@@ -59,6 +92,8 @@ pub struct Stride {
     // Its last pass moved frames, so there may be more of them.
     busy: bool,
     ended: bool,
+    // So many of its next waits begin with sleep.
+    crowded: u32,
 }
 
 impl Pace {
@@ -71,13 +106,16 @@ impl Pace {
             burst,
             ports: u64::from(plan.ports),
             phase: 0,
-            under_way: AtomicU64::new(0),
-            ended: AtomicU64::new(0),
-            over: AtomicBool::new(false),
-            receives: AtomicU64::new(0),
-            fed: AtomicU64::new(0),
-            handled: AtomicU64::new(0),
-            moved: AtomicU64::new(0),
+            under_way: counter(),
+            ended: counter(),
+            over: CachePadded::new(AtomicBool::new(false)),
+            receives: counter(),
+            fed: counter(),
+            handled: counter(),
+            moved: counter(),
+            room: Bell::make(),
+            work: Bell::make(),
+            output: Bell::make(),
         }
     }
 
@@ -91,6 +129,13 @@ impl Pace {
     /// No role begins another pass of this phase.
     pub fn end_phase(&self) {
         self.over.store(true, Ordering::SeqCst);
+        self.wake_all();
+    }
+
+    fn wake_all(&self) {
+        self.room.ring();
+        self.work.ring();
+        self.output.ring();
     }
 
     /// The number of the pass with this number in its phase. Each phase begins with another multiple
@@ -98,7 +143,7 @@ impl Pace {
     pub fn pass_number(&self, number: u32) -> u64 {
         self.phase
             .saturating_sub(1)
-            .saturating_mul(1024)
+            .saturating_mul(u64::from(MOST_PASSES))
             .saturating_add(u64::from(number))
     }
 
@@ -119,26 +164,46 @@ impl Pace {
             seen: 0,
             busy: false,
             ended,
+            crowded: 0,
         }
     }
 
     /// Waits until the role's next pass may find something to do. Says whether the phase goes on.
-    pub fn admits<T: time::Clock, I, N>(
+    pub fn admits<R: Wait + time::Clock, I, N>(
         &self,
-        rt: &T,
+        rt: &R,
         role: &Role<I, N>,
         stride: &mut Stride,
     ) -> bool {
+        stride.crowded = stride.crowded.saturating_sub(1);
         for turn in 0..YIELDS + SLEEPS {
+            // What rings from here on is not slept over.
+            let bell = self.bell_of(role, stride);
+            let heard = bell.rung.load(Ordering::SeqCst);
             if self.is_over() {
                 return false;
             }
             if self.has_work(role, stride) {
                 return true;
             }
-            rest(rt, role, turn);
+            if let Role::Tick(_) = role {
+                thread::sleep(rt, Duration::from_micros(TICK_NAP));
+            } else if turn >= YIELDS || stride.crowded > 0 {
+                bell.wait(rt, heard);
+            } else if is_crowded(rt) {
+                stride.crowded = CROWDED_WAITS;
+            }
         }
         true
+    }
+
+    // What rings where the role's next pass may find something to do.
+    fn bell_of<I, N>(&self, role: &Role<I, N>, stride: &Stride) -> &Bell {
+        match role {
+            Role::Receive(_) if !stride.ended => &self.room,
+            Role::Handle(_) => &self.work,
+            Role::Receive(_) | Role::Send(_) | Role::Tick(_) => &self.output,
+        }
     }
 
     // No frame is on its way and none will come, or a role has ended the phase.
@@ -187,40 +252,66 @@ impl Pace {
 
     /// What the role's pass did, which answered this.
     pub fn note<I, N>(&self, role: &Role<I, N>, answer: Pass, stride: &mut Stride) {
-        let pulled = u64::from(role.pulled());
-        let recorded = role.recorded();
-        self.under_way
-            .fetch_add(pulled.saturating_sub(stride.pulled), Ordering::SeqCst);
-        let gone = recorded.saturating_sub(stride.recorded);
-        self.under_way
-            .fetch_sub(gone.saturating_add(stride.reserved), Ordering::SeqCst);
-        stride.pulled = pulled;
-        stride.recorded = recorded;
-        stride.reserved = 0;
         let did = match answer {
             Pass::Did(did) => u64::from(did),
             Pass::Idle | Pass::Wanting | Pass::Stopped => 0,
         };
+        let gone = self.note_frames(role, stride);
         stride.fresh = false;
-        stride.busy = false;
+        stride.busy = did > 0;
         match role {
             Role::Receive(_) => {
-                self.fed
-                    .fetch_add(did.saturating_sub(gone), Ordering::SeqCst);
+                stride.busy = false;
+                self.feed(did.saturating_sub(gone));
                 self.receives.fetch_add(1, Ordering::SeqCst);
+                self.output.ring();
             }
             Role::Send(_) => {
                 self.moved.fetch_add(did, Ordering::SeqCst);
-                self.fed
-                    .fetch_add(did.saturating_sub(gone), Ordering::SeqCst);
-                stride.busy = did > 0;
+                self.feed(did.saturating_sub(gone));
+                self.work.ring();
             }
             Role::Handle(_) => {
                 self.handled.fetch_add(did, Ordering::SeqCst);
-                stride.busy = did > 0;
+                self.output.ring();
             }
-            Role::Tick(_) => {}
+            Role::Tick(_) => stride.busy = false,
         }
+        self.note_end(role, stride);
+    }
+
+    // Counts the frames that the role pulled, and those that it recorded, which it answers.
+    fn note_frames<I, N>(&self, role: &Role<I, N>, stride: &mut Stride) -> u64 {
+        let pulled = u64::from(role.pulled());
+        let recorded = role.recorded();
+        let came = pulled.saturating_sub(stride.pulled);
+        let gone = recorded.saturating_sub(stride.recorded);
+        let fewer = gone.saturating_add(stride.reserved);
+        if came > 0 {
+            self.under_way.fetch_add(came, Ordering::SeqCst);
+        }
+        if fewer > 0 {
+            self.under_way.fetch_sub(fewer, Ordering::SeqCst);
+        }
+        stride.pulled = pulled;
+        stride.recorded = recorded;
+        stride.reserved = 0;
+        if came < fewer {
+            self.room.ring();
+        }
+        gone
+    }
+
+    // So many frames came into lanes.
+    fn feed(&self, count: u64) {
+        if count > 0 {
+            self.fed.fetch_add(count, Ordering::SeqCst);
+            self.work.ring();
+        }
+    }
+
+    // Tells of a receive role that has pulled all its frames, and wakes all where that was the phase's end.
+    fn note_end<I, N>(&self, role: &Role<I, N>, stride: &mut Stride) {
         if let Role::Receive(role) = role
             && !stride.ended
             && role.done()
@@ -228,6 +319,34 @@ impl Pace {
             stride.ended = true;
             self.ended.fetch_add(1, Ordering::SeqCst);
         }
+        if self.is_over() {
+            self.wake_all();
+        }
+    }
+}
+
+impl Bell {
+    fn make() -> Bell {
+        Bell {
+            rung: counter(),
+            sleepers: counter(),
+        }
+    }
+
+    fn ring(&self) {
+        self.rung.fetch_add(1, Ordering::SeqCst);
+        if self.sleepers.load(Ordering::SeqCst) > 0 {
+            self.rung.wake_all();
+        }
+    }
+
+    // Sleeps until the bell rings, unless it rang more often than this already.
+    fn wait<R: Wait>(&self, rt: &R, heard: u64) {
+        self.sleepers.fetch_add(1, Ordering::SeqCst);
+        // The system compares the low half of the word.
+        let low = (heard % (1 << 32)) as u32;
+        self.rung.park_timeout(rt, low, Duration::from_micros(NAP));
+        self.sleepers.fetch_sub(1, Ordering::SeqCst);
     }
 }
 
@@ -240,6 +359,10 @@ impl Stride {
     }
 }
 
+fn counter() -> Counter {
+    CachePadded::new(AtomicU64::new(0))
+}
+
 // Whether a count is below another one, where they differ by less than 2^63. What is counted at the end
 // of a pass may be counted behind what comes of it.
 fn is_behind(count: u64, other: u64) -> bool {
@@ -247,13 +370,12 @@ fn is_behind(count: u64, other: u64) -> bool {
     ahead > 0 && ahead < 1 << 63
 }
 
-// Lets others go on between two looks. The tick role always sleeps: nobody waits for it, and a mail ring
-// holds 64 samples.
-fn rest<T: time::Clock, I, N>(rt: &T, role: &Role<I, N>, turn: u32) {
-    match role {
-        Role::Receive(_) | Role::Send(_) | Role::Handle(_) if turn < YIELDS => {
-            thread::yield_now();
-        }
-        _ => thread::sleep(rt, Duration::from_micros(NAP)),
+// Lets others run. Says whether they took the processor for long.
+fn is_crowded<T: time::Clock>(rt: &T) -> bool {
+    let before = rt.monotonic();
+    thread::yield_now();
+    match (before, rt.monotonic()) {
+        (Ok(before), Ok(after)) => after.saturating_sub(before) > Duration::from_micros(SLICE),
+        _ => false,
     }
 }

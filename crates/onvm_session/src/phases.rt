@@ -28,7 +28,7 @@ const MOST_THREADS: usize = 32;
 
 // All passes of a phase, each seat's in a thread of its own.
 fn run_seats<
-    R: Threads + time::Clock + Sync,
+    R: Threads + Wait + time::Clock + Sync,
     I: Source + Send,
     N: NetFunction + Send,
     C: Clock,
@@ -171,7 +171,7 @@ impl<I: Source, N: NetFunction> Manager<I, N> {
     /// A phase: all roles' passes beside each other. Says the last moment of them.
     ///
     /// Where a pass was cut short, the tokens aren't joined, and no more phases are made.
-    fn phase<R: Threads + time::Clock + Sync, C: Clock, G: Gate>(
+    fn phase<R: Threads + Wait + time::Clock + Sync, C: Clock, G: Gate>(
         &mut self,
         rt: &R,
         alloc: Global,

@@ -2,7 +2,7 @@
 ghost use Rattle.std.specs.Prelude.{◌≡◌, not, true};
 ghost use Rattle.onvm_promises.specs.Answers.{is_complete};
 
-use crate::pace::Pace;
+use crate::pace::{MOST_PASSES, Pace};
 use crate::role::Role;
 use nf_api::NetFunction;
 use nf_registry::Registry;
@@ -11,10 +11,8 @@ use onvm_board::{Board, Token};
 use onvm_host::{Clock, Gate, Source};
 use onvm_promises::Pass;
 use std::alloc::Global;
+use std::sync::Wait;
 use std::time;
-
-/// The most passes of a role in a phase.
-const MOST_PASSES: u32 = 1024;
 
 /// A role in a phase, with its token.
 #[derive(Drop)]
@@ -65,7 +63,7 @@ impl<I: Source, N: NetFunction> Seat<I, N> {
     }
 
     /// The passes of a phase: as many as there are until the phase ends, and one at least.
-    pub fn make_passes<T: time::Clock, C: Clock, G: Gate>(
+    pub fn make_passes<T: Wait + time::Clock, C: Clock, G: Gate>(
         &mut self,
         rt: &T,
         alloc: Global,
