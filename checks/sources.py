@@ -54,9 +54,9 @@ class Sources:
         found = {crate} | {os.path.basename(path).split(".")[0] for path in self.paths(crate)}
         for path in self.paths(crate, "rt"):
             code = self.code(path)
-            kinds = r"fn|ensures\*?|requires|invariant|ghost|struct|enum|trait|type|const|mod|for"
+            kinds = r"fn|ensures\*?|requires|invariant|ghost|struct|enum|trait|type|const|mod"
             found |= set(re.findall(rf"\b(?:{kinds}) (\w+)", code)) | set(re.findall(r"^\s+(?:pub )?(\w+)(?:[:,({{]|$)", code, re.M))
-            found |= set(re.findall(r"\w+", " ".join(re.findall(r"^(?:pub )?use .*?;", code, re.M | re.S))))
+            found |= set(re.findall(r"\w+", " ".join(re.findall(r"^(?:pub )?use .*?;|^impl.*", code, re.M | re.S))))
         for path in self.paths(crate, "antt"):
             found |= set(re.findall(r"^\s*(?:(?:abbrev|record|data|pub|unfoldable|law) )*(\w+)\b[^=\n]*[:=]", self.code(path), re.M))
         return found

@@ -15,7 +15,7 @@ os.chdir(os.path.join(os.path.dirname(os.path.abspath(__file__)), ".."))
 from sources import Sources, read  # noqa: E402
 
 ROOTS = ("examples", "docs", "tools", "bench", "checks", "crates")
-SUFFIXES = (".md", ".sh", ".py", ".antt", ".rt", ".svg", ".edit")
+SUFFIXES = (".md", ".sh", ".py", ".antt", ".rt")
 OF_AN_EXAMPLE = (".json", ".pcap", ".txt", ".sha256")
 # The most columns of a line of prose. These two files had longer ones; no line of theirs may become longer still.
 COLUMNS = {"docs/FORMATS.md": 177, "docs/DECISIONS.md": 213}
@@ -71,11 +71,15 @@ def links():
 
 
 def is_path(token):
-    """Whether a word is meant as a path of this repository. One with a part in capitals stands for many."""
-    if not re.fullmatch(r"[\w.*-]+(/[\w.*-]+)*/?", token) or re.search(r"(^|[/_.])([A-Z]{2,}|NN-name)([/._]|$)", token):
-        return token.startswith("../")
+    """Whether a word is meant as a path of this repository. One with a part in capitals, as NAME, stands for many."""
+    if not re.fullmatch(r"(\.\./)*[\w*-][\w.*-]*(/[\w.*-]+)*/?", token):
+        return False
     parts = token.strip("/").split("/")
-    return not parts[0].isdigit() and ("out" not in parts) and (len(parts) > 1 or token.endswith(SUFFIXES))
+    if re.fullmatch(r"[\d.]+", parts[0]) or "out" in parts or any(re.fullmatch(r"[A-Z]{2,}(\..*)?|NN-name", part) for part in parts[:-1]):
+        return False
+    if re.fullmatch(r"[A-Z]{2,}(\.(?!md$).*)?|NN-name", parts[-1]):
+        return False
+    return len(parts) > 1 or token.endswith(SUFFIXES)
 
 
 def named_paths(path):
@@ -217,6 +221,32 @@ def examples():
         yield "examples/README.md isn't in order"
 
 
+def owed(lines):
+    """What of a report its README has to tell: counts but 0, each way in which a frame ended, posts, and the first shares."""
+    ticks_told = 0
+    for words in map(str.split, lines):
+        ticks_told += words[0] == "tick"
+        if words[0] == "record" and words[3] != "sent":
+            yield " ".join(words[3:])
+        elif words[0] in ("post", "fault", "usage:"):
+            yield " ".join(words)
+        elif words[0] == "share" and ticks_told == 1:
+            yield f"{words[1]} {words[2]}"
+        elif len(words) == 2 and words[0] != "frames" and words[1] != "0" and words != ["ticks", "1"]:
+            yield " ".join(words)
+
+
+def reports():
+    for folder in sorted(glob.glob("examples/*/")):
+        lines = read(folder + "expected.txt").split("\n")[:-1]
+        told = read(folder + "README.md").replace("\n", " ")
+        # Only of few faults each is told by its line.
+        faults = {line for line in lines if line.startswith(("fault", "usage"))}
+        for line in dict.fromkeys(owed(lines)) if len(faults) < 4 and "38-refused-words" not in folder else ():
+            if line not in told:
+                yield f"{folder}README.md doesn't tell: {line}"
+
+
 # Decisions, definitions, places
 
 
@@ -279,10 +309,7 @@ def fault_lines():
 
 def usage():
     """The form of the command is the program's in each text that has it."""
-    form = re.search(r'"usage: onvm (.*?)\\n"', sources.text("onvm_top")) or re.search(r"usage: onvm (.*?)\\n", sources.text("onvm_top"))
-    if not form:
-        yield "no usage line was found in onvm_top"
-        return
+    form = re.search(r'"usage: onvm (.*?)"', sources.text("onvm_top"))
     for path in ("README.md", "docs/FORMATS.md"):
         if f"./onvm {form[1]}" not in read(path):
             yield f"{path} has not: ./onvm {form[1]}"
@@ -309,6 +336,7 @@ CHECKS = {
     "crates": crates,
     "READMEs of crates, of 15 to 40 lines": readmes,
     "examples": examples,
+    "reports of examples": reports,
     "docs/DECISIONS.md, numbers": numbers,
     "references to decisions": references,
     "words and the files that define them": defined,
