@@ -55,10 +55,12 @@ class Sources:
         for path in self.paths(crate, "rt"):
             code = self.code(path)
             kinds = r"fn|ensures\*?|requires|invariant|ghost|struct|enum|trait|type|const|mod"
-            found |= set(re.findall(rf"\b(?:{kinds}) (\w+)", code)) | set(re.findall(r"^\s+(?:pub )?(\w+)(?:[:,({{]|$)", code, re.M))
+            found |= set(re.findall(rf"\b(?:{kinds}) (\w+)", code))
+            found |= set(re.findall(r"^\s+(?:pub )?(\w+)(?:[:,({]|$)", code, re.M))
             found |= set(re.findall(r"\w+", " ".join(re.findall(r"^(?:pub )?use .*?;|^impl.*", code, re.M | re.S))))
         for path in self.paths(crate, "antt"):
-            found |= set(re.findall(r"^\s*(?:(?:abbrev|record|data|pub|unfoldable|law) )*(\w+)\b[^=\n]*[:=]", self.code(path), re.M))
+            pattern = r"^\s*(?:(?:abbrev|record|data|pub|unfoldable|law) )*(\w+)\b[^=\n]*[:=]"
+            found |= set(re.findall(pattern, self.code(path), re.M))
         return found
 
     def declares(self, crates, word):
@@ -71,7 +73,7 @@ class Sources:
         return any(re.search(rf"\bensures {word}\b", contract) for every in self.traits.values() for contract in every)
 
     def contracts(self, crates, holders):
-        """All that is said by these functions, types and files of these crates: contracts of functions, whole types and files."""
+        """What is said by these functions, types and files of these crates: contracts, whole types and whole files."""
         found = []
         for holder in holders:
             word = re.split(r"[.:]+", holder)[-1]

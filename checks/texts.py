@@ -25,8 +25,8 @@ OUT_OF_ORDER = {23, 63}
 
 def texts():
     found = ["README.md", "CHANGELOG.md"]
-    for pattern in ("docs/*.md", "crates/*/README.md", "examples/README.md", "examples/*/README.md", "tools/*.md", "bench/*.md"):
-        found += sorted(glob.glob(pattern))
+    for folder in ("docs", "crates/*", "examples", "examples/*", "tools", "bench"):
+        found += sorted(glob.glob(f"{folder}/*.md"))
     return found
 
 
@@ -75,9 +75,9 @@ def is_path(token):
     if not re.fullmatch(r"(\.\./)*[\w*-][\w.*-]*(/[\w.*-]+)*/?", token):
         return False
     parts = token.strip("/").split("/")
-    if re.fullmatch(r"[\d.]+", parts[0]) or "out" in parts or any(re.fullmatch(r"[A-Z]{2,}(\..*)?|NN-name", part) for part in parts[:-1]):
+    if re.fullmatch(r"[\d.]+", parts[0]) or "out" in parts:
         return False
-    if re.fullmatch(r"[A-Z]{2,}(\.(?!md$).*)?|NN-name", parts[-1]):
+    if any(re.fullmatch(r"[A-Z]{2,}(\.(?!md$).*)?|NN-name", part) for part in parts):
         return False
     return len(parts) > 1 or token.endswith(SUFFIXES)
 
@@ -94,7 +94,7 @@ def named_paths(path):
 
 
 def stands(token, folder, everything):
-    """Whether a path is there: seen from the text, the top, the folder of crates or some crate, or a name of any file."""
+    """Whether a path is there: seen from the text, the top, crates/ or some crate, or as the name of any file."""
     token = token.rstrip("/")
     for base in (folder, ".", "crates", "crates/*", "crates/*/specs", "crates/*/proofs", "crates/*/src"):
         where = os.path.normpath(os.path.join(base, token))
@@ -139,7 +139,7 @@ def proof_rows():
 
 
 def names():
-    """Each name of the column of functions and clauses is declared in the row's crates, or below where it is a definition."""
+    """Each name of the column of functions and clauses is declared in the row's crates, a definition also below them."""
     for number, cells, crates in promises():
         for token in ticks(cells[1]):
             if "/" in token or " " in token or "*" in token or ".." in token:
@@ -212,7 +212,8 @@ def readmes():
 
 
 def examples():
-    listed = [name for _, cells in rows("examples/README.md") for name in re.findall(r"\]\(([^)/]+)/README.md\)", cells[0])]
+    firsts = " ".join(cells[0] for _, cells in rows("examples/README.md"))
+    listed = re.findall(r"\]\(([^)/]+)/README.md\)", firsts)
     there = sorted(os.path.basename(folder[:-1]) for folder in glob.glob("examples/*/"))
     for name in there:
         if listed.count(name) != 1:
@@ -222,7 +223,7 @@ def examples():
 
 
 def owed(lines):
-    """What of a report its README has to tell: counts but 0, each way in which a frame ended, posts, and the first shares."""
+    """What of a report its README has to tell: counts but 0, each way in which a frame ended, posts, the first shares."""
     ticks_told = 0
     for words in map(str.split, lines):
         ticks_told += words[0] == "tick"
@@ -269,7 +270,8 @@ def numbers():
 def references():
     known = set(re.findall(r"^\*\*(\d+)\. ", read("docs/DECISIONS.md"), re.M))
     for path in texts():
-        pattern = r"(?:DECISIONS(?:\.md)?`?,?|[Dd]ecisions?) (\d+)" + (r"|\((\d{1,3})\)" if path == "docs/DECISIONS.md" else "")
+        pattern = r"(?:DECISIONS(?:\.md)?`?,?|[Dd]ecisions?) (\d+)"
+        pattern += r"|\((\d{1,3})\)" if path == "docs/DECISIONS.md" else ""
         for pair in re.findall(pattern, read(path)):
             number = "".join(pair)
             if number not in known:
