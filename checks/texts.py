@@ -139,7 +139,7 @@ def proof_rows():
 
 
 def names():
-    """Each name of the column of functions and clauses is declared in the row's crates, a definition also below them."""
+    """Each name of the second column is declared in the row's crates; a definition may stand below them."""
     for number, cells, crates in promises():
         for token in ticks(cells[1]):
             if "/" in token or " " in token or "*" in token or ".." in token:
@@ -223,7 +223,7 @@ def examples():
 
 
 def owed(lines):
-    """What of a report its README has to tell: counts but 0, each way in which a frame ended, posts, the first shares."""
+    """What of a report its README has to tell: counts but 0, how frames ended, posts, the first shares."""
     ticks_told = 0
     for words in map(str.split, lines):
         ticks_told += words[0] == "tick"
