@@ -1,7 +1,7 @@
 #!/bin/sh
 # Checks what no proof sees: that the repository's files are where its reader looks for them, and
-# speak of nothing that a reader does not have. Prints what is wrong and ends with status 1, or else
-# prints how many checks passed. It builds nothing and takes a second or so.
+# speak of nothing that a reader does not have; texts.py has the checks of what texts name. Prints what is
+# wrong and ends with status 1, or else prints how many checks passed. It builds nothing and takes some seconds.
 cd "$(dirname "$0")/.." || exit 1
 LC_ALL=C
 export LC_ALL
@@ -18,29 +18,10 @@ judge() {
     fi
 }
 
-crates=$(sed 's/#.*//; s/:.*//' crates.txt | awk 'NF { print $1 }')
 files=$(git ls-files)
 
 handles() {
     printf 'Handles allowed: Threads, Wait.\n' | cmp -s - HANDLES || echo HANDLES
-}
-
-crate_readmes() {
-    for crate in $crates; do
-        file=crates/$crate/README.md
-        if [ ! -f "$file" ]; then
-            echo "$file is not there"
-        else
-            lines=$(wc -l <"$file")
-            if [ "$lines" -lt 15 ] || [ "$lines" -gt 40 ]; then echo "$file has $lines lines"; fi
-        fi
-    done
-}
-
-crates_named() {
-    for crate in $crates; do
-        grep -qrw -- "$crate" README.md docs 2>/dev/null || echo "$crate"
-    done
 }
 
 examples() {
@@ -77,12 +58,22 @@ references() {
 }
 
 judge 'HANDLES is not its one line' "$(handles)"
-judge 'READMEs of crates, of 15 to 40 lines' "$(crate_readmes)"
-judge 'crates that neither README.md nor docs/ names' "$(crates_named)"
 judge 'files of the examples' "$(examples)"
 judge 'lines of the must-fail edits' "$(edits)"
 judge 'sources of more than 600 lines' "$(lengths)"
 judge 'references to texts that are not here' "$(references)"
+
+# The last line is 'texts: N passed, M failed'.
+said=$(python3 checks/texts.py)
+last=$(echo "$said" | tail -n 1)
+if echo "$last" | grep -qxE 'texts: [0-9]+ passed, [0-9]+ failed'; then
+    echo "$said" | sed '$d'
+    passed=$((passed + $(echo "$last" | awk '{ print $2 }')))
+    failed=$((failed + $(echo "$last" | awk '{ print $4 }')))
+else
+    failed=$((failed + 1))
+    printf 'checks/texts.py gave no answer:\n%s\n' "$said"
+fi
 
 if [ "$failed" -gt 0 ]; then
     echo "repository checks: $passed passed, $failed failed"

@@ -94,7 +94,8 @@ def draw_outcomes(rows):
     picture.legend((f"{cause} ({count})", COLOURS[OUTCOMES.index(cause)]) for cause, count in zip(causes, counts))
     for place, (port, cause) in enumerate(strips):
         for first, last in runs(row[1] for row in rows if (row[0], row[2]) == (port, cause)):
-            picture.bar(place, first - 0.5, last + 0.5, COLOURS[OUTCOMES.index(cause)])
+            # Frame N is drawn from N - 1 to N, so the last one ends where the axis does.
+            picture.bar(place, first - 1, last, COLOURS[OUTCOMES.index(cause)])
     return picture.text()
 
 
