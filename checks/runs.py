@@ -34,9 +34,10 @@ class Ended:
 
 
 class Run:
-    """A run that was begun. Standard output and error go to files, so that nothing has to read them meanwhile."""
+    """A run that was begun. Standard output and error go to files, so that nothing has to read them meanwhile; or standard
+    output goes to a pipe, which takes what a summary or a line is, and has no limit as files have."""
 
-    def __init__(self, words, room, limits=(), environment=None, command=None):
+    def __init__(self, words, room, limits=(), environment=None, command=None, piped=False):
         self.said, self.complaint = os.path.join(room, "said"), os.path.join(room, "complaint")
 
         def prepare():
@@ -48,8 +49,8 @@ class Run:
         with open(self.said, "wb") as said, open(self.complaint, "wb") as complaint:
             self.begin = time.monotonic()
             self.process = subprocess.Popen(
-                [*(command or [PROGRAM]), *words], stdin=subprocess.DEVNULL, stdout=said, stderr=complaint,
-                env={**os.environ, **(environment or {})}, preexec_fn=prepare)
+                [*(command or [PROGRAM]), *words], stdin=subprocess.DEVNULL, stdout=subprocess.PIPE if piped else said,
+                stderr=complaint, env={**os.environ, **(environment or {})}, preexec_fn=prepare)
         self.pid = self.process.pid
 
     def end(self, deadline):
@@ -67,6 +68,9 @@ class Run:
         seconds = time.monotonic() - self.begin
         status = None if late.is_set() else os.waitstatus_to_exitcode(wait)
         self.process.returncode = status
+        if self.process.stdout:
+            with self.process.stdout as pipe:
+                write(self.said, pipe.read())
         return Ended(status, text_of(self.said), text_of(self.complaint), seconds, usage.ru_maxrss)
 
 
