@@ -25,7 +25,8 @@ help:
 	@echo 'make version says what was proved with which kit'
 	@echo "make test    the merge gate: every proof, test and must-fail edit, then the repository's own checks"
 	@echo "make soak    many runs of roles beside each other, for hours: the same bytes as with --serial, each frame"
-	@echo '             accounted for under stress, and what is lost on few and on busy processors'
+	@echo '             accounted for under stress, and what is lost on few and on busy processors; then the worst inputs,'
+	@echo '             in the time and memory that docs/LIMITS.md states'
 	@echo 'make bench   the program beside other ones that copy captures, what functions cost per frame,'
 	@echo '             and what windows of samples, the board, rules, passes and sessions cost; never part of a test'
 
@@ -34,11 +35,12 @@ test:
 	@log=$$(mktemp); \
 	trap 'status=$$?; sh checks/total.sh "$$status" "$$log"; rm -f "$$log"; exit "$$status"' EXIT; \
 	rt ci | tee "$$log"; \
-	for check in repository examples model schema plots install captures system threads; do sh checks/$$check.sh | tee -a "$$log"; done
+	for check in repository examples model schema plots install captures system growth changing whole output threads; do sh checks/$$check.sh | tee -a "$$log"; done
 
 soak: $(program)
 	@sh checks/threads.sh 1000 1000
 	@sh checks/losses.sh 50
+	@sh checks/worst.sh
 
 run: $(program)
 	@sh checks/show.sh examples/01-one-frame

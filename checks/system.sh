@@ -155,6 +155,115 @@ rm -f "$room/out"
 status=$(cat "$room/status")
 judge 'standard output is a pipe that nobody reads' 6 /dev/null is_emitted
 
+# What OUT, a capture or the chain file may not be. They stay as they were, and nothing comes beside them.
+special=$room/special
+mkdir -p "$special/folder"
+echo kept >"$special/folder/kept"
+ln -s loop "$special/loop"
+long=$(head -c 300 /dev/zero | tr '\0' n)
+python3 -c 'import socket, sys; socket.socket(socket.AF_UNIX).bind(sys.argv[1])' "$special/socket"
+
+# is_unchanged: the folder of special files holds what was made in it, and no OUT was made outside.
+is_unchanged() {
+    [ "$(ls -A "$special" "$special/folder" | sort | tr '\n' ' ')" = "$unchanged" ] && [ "$(cat "$special/folder/kept")" = kept ] &&
+        [ -S "$special/socket" ] && [ -h "$special/loop" ] && [ ! -e "$room/out" ]
+}
+
+# refuse NAME STATUS LINE WORD..: a run of these words, with --serial and without, ends so.
+refuse() {
+    what=$1
+    ending=$2
+    echo "$3" >"$room/line"
+    shift 3
+    rm -f "$room/out"
+    ./onvm --serial "$@" >"$room/said" 2>&1
+    status=$?
+    judge "$what, serial" "$ending" "$room/said" is_unchanged
+    ./onvm "$@" >"$room/said" 2>&1
+    status=$?
+    judge "$what, beside each other" "$ending" "$room/said" is_unchanged
+}
+
+unchanged=$(ls -A "$special" "$special/folder" | sort | tr '\n' ' ')
+for kind in folder socket loop "$long" none/out none/ ''; do
+    refuse "OUT is '$kind'" 6 'fault write' "$chain" "${kind:+$special/}$kind" "$room/small"
+    refuse "the capture is '$kind'" 5 'fault read 0' "$chain" "$room/out" "${kind:+$special/}$kind"
+    refuse "the chain file is '$kind'" 5 'fault read chain' "${kind:+$special/}$kind" "$room/out" "$room/small"
+done
+refuse 'OUT is a full device' 6 'fault write' "$chain" /dev/full "$room/small"
+refuse 'OUT is a full device, for a large capture' 6 'fault write' "$chain" /dev/full "$room/capture"
+refuse 'OUT is a file of the system' 6 'fault write' "$chain" /proc/none "$room/small"
+
+# A pipe as OUT, whose reader takes all, a part or nothing.
+mkfifo "$room/pipe"
+summary 100 >"$room/line"
+cat "$room/pipe" >"$room/taken" &
+onvm "$room/capture" "$room/pipe" >"$room/said"
+status=$?
+wait "$!"
+judge 'OUT is a pipe' 0 "$room/said" cmp -s "$room/taken" "$room/capture"
+
+echo 'fault write' >"$room/line"
+head -c 1000 "$room/pipe" >"$room/taken" &
+onvm "$room/capture" "$room/pipe" >"$room/said"
+status=$?
+wait "$!"
+judge 'OUT is a pipe whose reader ends' 6 "$room/said" is_front "$room/taken" "$room/capture" 1000
+
+: <"$room/pipe" &
+onvm "$room/capture" "$room/pipe" >"$room/said"
+status=$?
+wait "$!"
+judge 'OUT is a pipe that nobody reads' 6 "$room/said" test -p "$room/pipe"
+
+# Standard input and error aren't needed.
+summary 1 >"$room/line"
+rm -f "$room/out"
+onvm "$room/small" "$room/out" >"$room/said" <&- 2>&-
+status=$?
+judge 'standard input and error are closed' 0 "$room/said" is_emitted
+
+# on_device SCRIPT: in a mount namespace of its own, with a device of 1 MiB at $1/device, where $1 is $room and $2 the chain
+# file. Its status is in $room/status, and what the script left of OUT is $room/left.
+mkdir "$room/device"
+on_device() {
+    rm -f "$room/left"
+    unshare -m sh -c "mount -t tmpfs -o size=1m none \"\$1/device\" || exit 1
+        $1
+        echo \$? >\"\$1/status\"
+        cp \"\$1/device/out\" \"\$1/left\" 2>/dev/null
+        cp \"\$1/device/said\" \"\$1/said\" 2>/dev/null
+        exit 0" sh "$room" "$chain"
+}
+
+# is_left: of OUT the device has nothing, or what was to be emitted from its begin on.
+is_left() {
+    [ ! -e "$room/left" ] || is_front "$room/left" "$room/capture" "$(wc -c <"$room/left")"
+}
+
+# shellcheck disable=SC2016 # The inner shell has these words.
+if on_device true 2>/dev/null; then
+    echo 'fault write' >"$room/line"
+    on_device './onvm --serial "$2" "$1/device/out" "$1/capture" >"$1/said"'
+    status=$(cat "$room/status")
+    judge 'a device becomes full, serial' 6 "$room/said" is_left
+    on_device './onvm "$2" "$1/device/out" "$1/capture" >"$1/said"'
+    status=$(cat "$room/status")
+    judge 'a device becomes full, beside each other' 6 "$room/said" is_left
+    on_device 'head -c 2000000 /dev/zero >"$1/device/other" 2>/dev/null
+        ./onvm --serial "$2" "$1/device/out" "$1/small" >"$1/said"'
+    status=$(cat "$room/status")
+    judge 'a device was full' 6 "$room/said" is_left
+    rm -f "$room/out"
+    : >"$room/line"
+    on_device 'head -c 2000000 /dev/zero >"$1/device/other" 2>/dev/null
+        ./onvm --serial "$2" "$1/out" "$1/small" >"$1/device/said"'
+    status=$(cat "$room/status")
+    judge 'the report goes to a full device' 6 "$room/said" is_emitted
+else
+    echo 'system: skipped, this system lets no device be mounted here'
+fi
+
 # The fault line of a run whose standard output goes to the file that OUT names.
 (./onvm "$chain" "$room/both" "$room/none") >"$room/both"
 status=$?
