@@ -3,6 +3,10 @@
 A case is what all its programs have to do with the same captures. `works` is that work for the C programs of
 baselines/, `others` the commands of programs that somebody may have installed.
 """
+import json
+import os
+import sys
+
 import captures
 
 ADDRESSES = {"target": "020000000003", "source": "020000000004"}
@@ -97,3 +101,18 @@ def all_cases(most=MOST):
         Case("short", "Frames of 60 bytes", plan(["forward"]), "forward", one_port("short", most), WRITERS, copies=True),
         *[growth(count) for count in counts],
     ]
+
+
+def main(words):
+    """Writes the plan of a case into a folder, and says its path and those of the captures: for bench/profile.sh."""
+    case = next((case for case in all_cases() if case.name == words[0]), None)
+    if case is None:
+        sys.exit(f"no such case: {words[0]}; there are {', '.join(case.name for case in all_cases())}")
+    path = os.path.join(words[1], f"{case.name}.json")
+    with open(path, "w") as file:
+        json.dump(case.plan, file)
+    print(path, *case.captures())
+
+
+if __name__ == "__main__":
+    main(sys.argv[1:])

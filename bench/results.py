@@ -128,7 +128,7 @@ class Verdicts:
     def memory(self):
         """What each run of ours takes beyond 1.5 times what it emits."""
         for name in OWN:
-            over = {race.case.name: peak(race, name) - 1.5 * programs.due_bytes(race.case) for race in self.by_name.values()}
+            over = {race.case.name: peak(race, name) - 1.5 * programs.due_bytes(race.case) for race in self.by_name.values() if race.case.frames}
             worst = max(over, key=over.get)
             race = self.by_name[worst]
             value = f"worst in {worst}: {peak(race, name) / MIB:.0f} MiB for {programs.due_bytes(race.case) / MIB:.0f} MiB"
