@@ -95,8 +95,7 @@ failed=0
 for case in "${cases[@]}"; do
     told=$(python3 bench/cases.py "$case" "$folder") || exit 1
     read -r plan captures <<<"$told"
-    # shellcheck disable=SC2086 # No name has a space.
-    words=("$script" $serial "$plan" "$folder/out.pcap" $captures)
+    read -r -a words <<<"$script $serial $plan $folder/out.pcap $captures"
     echo "== $case, ${serial:-threads}${script#./onvm}"
     measured
     if perf record -q -e cpu-clock -o "$folder/tried" true >"$folder/said" 2>&1; then by_perf; else by_callgrind; fi || failed=1
