@@ -28,6 +28,13 @@ const SLEEPS: u32 = 1000;
 
 const NAP: u64 = 1000;
 
+// Where the system gave too few threads, a role that sleeps would keep another one from its passes. So it
+// leaves the phase where not all roles are there after so many sleeps, or after more of them where threads
+// begin late since others want the processors.
+const PATIENCE: u32 = 2;
+
+const CROWDED_PATIENCE: u32 = 50;
+
 // Where to let others run took longer than this, in microseconds, programs beside this one want the
 // processor, and each yield would give them a whole slice of its time. Who sleeps gets it back at once
 // where a bell rings: so the role's next waits, so many of them, begin with sleep.
@@ -49,8 +56,11 @@ pub struct Pace {
     window: u64,
     burst: u64,
     ports: u64,
-    // The phase's number, from 1.
+    // The phase's number, from 1, and how many roles it has.
     phase: u64,
+    roles: u64,
+    // How many of them are there.
+    present: Counter,
     // The frames that were pulled and have no record, and those that receive roles are about to pull.
     under_way: Counter,
     // How many receive roles have pulled all their frames.
@@ -106,6 +116,8 @@ impl Pace {
             burst,
             ports: u64::from(plan.ports),
             phase: 0,
+            roles: 0,
+            present: counter(),
             under_way: counter(),
             ended: counter(),
             over: CachePadded::new(AtomicBool::new(false)),
@@ -119,9 +131,11 @@ impl Pace {
         }
     }
 
-    /// Another phase begins.
-    pub fn begin_phase(&mut self) {
+    /// Another phase begins, of so many roles.
+    pub fn begin_phase(&mut self, roles: usize) {
         self.phase = self.phase.saturating_add(1);
+        self.roles = roles as u64;
+        self.present.store(0, Ordering::SeqCst);
         self.ended.store(0, Ordering::SeqCst);
         self.over.store(false, Ordering::SeqCst);
     }
@@ -147,7 +161,7 @@ impl Pace {
             .saturating_add(u64::from(number))
     }
 
-    /// Of a role that has made no pass in this phase.
+    /// Of a role that is there, and has made no pass in this phase.
     pub fn stride_of<I, N>(&self, role: &Role<I, N>) -> Stride {
         let ended = match role {
             Role::Receive(role) => role.done(),
@@ -156,6 +170,7 @@ impl Pace {
         if ended {
             self.ended.fetch_add(1, Ordering::SeqCst);
         }
+        self.present.fetch_add(1, Ordering::SeqCst);
         Stride {
             pulled: u64::from(role.pulled()),
             recorded: role.recorded(),
@@ -168,7 +183,7 @@ impl Pace {
         }
     }
 
-    /// Waits until the role's next pass may find something to do. Says whether the phase goes on.
+    /// Waits until the role's next pass may find something to do. Says whether it goes on in this phase.
     pub fn admits<R: Wait + time::Clock, I, N>(
         &self,
         rt: &R,
@@ -176,25 +191,65 @@ impl Pace {
         stride: &mut Stride,
     ) -> bool {
         stride.crowded = stride.crowded.saturating_sub(1);
-        for turn in 0..YIELDS + SLEEPS {
-            // What rings from here on is not slept over.
-            let bell = self.bell_of(role, stride);
-            let heard = bell.rung.load(Ordering::SeqCst);
-            if self.is_over() {
-                return false;
+        for _ in 0..YIELDS {
+            if let Some(goes_on) = self.decides(role, stride) {
+                return goes_on;
             }
-            if self.has_work(role, stride) {
-                return true;
+            if stride.crowded > 0 || is_tick(role) {
+                break;
             }
-            if let Role::Tick(_) = role {
-                thread::sleep(rt, Duration::from_micros(TICK_NAP));
-            } else if turn >= YIELDS || stride.crowded > 0 {
-                bell.wait(rt, heard);
-            } else if is_crowded(rt) {
+            if is_crowded(rt) {
                 stride.crowded = CROWDED_WAITS;
             }
         }
+        self.sleeps(rt, role, stride)
+    }
+
+    // Whether the role goes on, where that is known. Its first pass it makes also where the phase is
+    // over, so that no role is left behind; but a receive role makes none without room for a burst.
+    fn decides<I, N>(&self, role: &Role<I, N>, stride: &mut Stride) -> Option<bool> {
+        let is_over = self.is_over();
+        if (stride.fresh || !is_over) && self.has_work(role, stride) {
+            return Some(true);
+        }
+        if is_over { Some(false) } else { None }
+    }
+
+    // Sleeps between its looks. Says whether the role goes on in this phase.
+    fn sleeps<R: Wait + time::Clock, I, N>(
+        &self,
+        rt: &R,
+        role: &Role<I, N>,
+        stride: &mut Stride,
+    ) -> bool {
+        let patience = if stride.crowded > 0 {
+            CROWDED_PATIENCE
+        } else {
+            PATIENCE
+        };
+        for turn in 0..SLEEPS {
+            // What rings from here on is not slept over.
+            let bell = self.bell_of(role, stride);
+            let heard = bell.rung.load(Ordering::SeqCst);
+            if let Some(goes_on) = self.decides(role, stride) {
+                return goes_on;
+            }
+            if turn >= patience && self.present.load(Ordering::SeqCst) < self.roles {
+                self.leave();
+                return false;
+            }
+            if is_tick(role) {
+                thread::sleep(rt, Duration::from_micros(TICK_NAP));
+            } else {
+                bell.wait(rt, heard);
+            }
+        }
         true
+    }
+
+    // A role leaves the phase, which goes on for the others while they have something to do.
+    fn leave(&self) {
+        self.present.fetch_sub(1, Ordering::SeqCst);
     }
 
     // What rings where the role's next pass may find something to do.
@@ -357,6 +412,10 @@ impl Stride {
         self.seen = now;
         is_new
     }
+}
+
+fn is_tick<I, N>(role: &Role<I, N>) -> bool {
+    matches!(role, Role::Tick(_))
 }
 
 fn counter() -> Counter {

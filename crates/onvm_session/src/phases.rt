@@ -257,7 +257,7 @@ impl<I: Source, N: NetFunction> Manager<I, N> {
         let mut pace = Pace::make(plan);
         let mut now = first;
         for _ in rt.forever() {
-            pace.begin_phase();
+            pace.begin_phase(self.roles.len());
             now = self.phase(rt, alloc, plan, clock, gate, &pace, seats, now)?;
             if self.is_over() {
                 return Ok(now);

@@ -62,7 +62,7 @@ impl<I: Source, N: NetFunction> Seat<I, N> {
         }
     }
 
-    /// The passes of a phase: as many as there are until the phase ends, and one at least.
+    /// The passes of a phase: as many as the pace admits.
     pub fn make_passes<T: Wait + time::Clock, C: Clock, G: Gate>(
         &mut self,
         rt: &T,
@@ -83,8 +83,7 @@ impl<I: Source, N: NetFunction> Seat<I, N> {
     {
         let mut stride = pace.stride_of(&self.role);
         for number in 0..MOST_PASSES {
-            let goes_on = pace.admits(rt, &self.role, &mut stride);
-            if !goes_on && number > 0 {
+            if !pace.admits(rt, &self.role, &mut stride) {
                 return;
             }
             gate.turn(self.number, pace.pass_number(number));
