@@ -100,7 +100,7 @@ def stands(token, folder, everything):
         where = os.path.normpath(os.path.join(base, token))
         if glob.glob(where) or glob.glob(where + ".antt"):
             return True
-    return "/" not in token and any(os.path.basename(file) == token for file in everything)
+    return token.endswith(SUFFIXES) and any(os.path.basename(file) == token for file in everything)
 
 
 def paths():
@@ -311,10 +311,10 @@ def fault_lines():
 
 def usage():
     """The form of the command is the program's in each text that has it."""
-    form = re.search(r'"usage: onvm (.*?)"', sources.text("onvm_top"))
-    for path in ("README.md", "docs/FORMATS.md"):
-        if f"./onvm {form[1]}" not in read(path):
-            yield f"{path} has not: ./onvm {form[1]}"
+    for form in set(re.findall(r'"usage: onvm (.*?)"', sources.text("onvm_top"))) or {"?"}:
+        for path in ("README.md", "docs/FORMATS.md"):
+            if f"./onvm {form}" not in read(path).replace("`", "\n").split("\n"):
+                yield f"{path} has not: ./onvm {form}"
 
 
 def lengths():
