@@ -123,7 +123,7 @@ def targets():
 
 
 def promises():
-    """The rows of docs/PROOF_STATUS.md and README.md that name a function: where they are, their cells and their crates."""
+    """The rows of docs/PROOF_STATUS.md and README.md that name functions: where they are, cells and crates."""
     for number, cells in rows("docs/PROOF_STATUS.md"):
         if len(cells) == 5 and cells[0] != "Promise":
             crates = [name.strip() for name in cells[2].split(",") if name.strip() not in ("", "all")]
