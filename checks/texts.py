@@ -100,11 +100,14 @@ def stands(token, folder, everything):
         where = os.path.normpath(os.path.join(base, token))
         if glob.glob(where) or glob.glob(where + ".antt"):
             return True
-    return token.endswith(SUFFIXES) and any(os.path.basename(file) == token for file in everything)
+    return token.endswith(SUFFIXES) and token in everything
 
 
 def paths():
-    everything = [os.path.join(top, file) for top, _, files in os.walk(".") if "/.git" not in top for file in files]
+    everything = set()
+    for top, folders, files in os.walk("."):
+        folders[:] = [folder for folder in folders if folder not in (".git", "out")]
+        everything.update(files)
     for path in texts():
         for token in named_paths(path):
             if not stands(token, os.path.dirname(path), everything):
