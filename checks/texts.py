@@ -203,6 +203,11 @@ def crates():
         yield f"crates.txt and crates/ differ by {name}"
     architecture = read("docs/ARCHITECTURE.md")
     each = " ".join(cells[0] for _, cells in rows("docs/PROOF_STATUS.md", "Each crate"))
+    heads = re.findall(r"^## (.*)$", read("docs/PROOF_STATUS.md"), re.M)
+    for number, cells in rows("docs/PROOF_STATUS.md", "Each crate"):
+        for section in cells[2].split("; ") if "`" in cells[0] and "`" not in cells[2] else ():
+            if section not in heads:
+                yield f"docs/PROOF_STATUS.md, line {number}: there is no section {section}"
     for name in sources.below:
         if f"**{name}**" not in architecture:
             yield f"docs/ARCHITECTURE.md has no paragraph on {name}"
