@@ -100,11 +100,14 @@ def stands(token, folder, everything):
         where = os.path.normpath(os.path.join(base, token))
         if glob.glob(where) or glob.glob(where + ".antt"):
             return True
-    return "/" not in token and any(os.path.basename(file) == token for file in everything)
+    return token.endswith(SUFFIXES) and token in everything
 
 
 def paths():
-    everything = [os.path.join(top, file) for top, _, files in os.walk(".") if "/.git" not in top for file in files]
+    everything = set()
+    for top, folders, files in os.walk("."):
+        folders[:] = [folder for folder in folders if folder not in (".git", "out")]
+        everything.update(files)
     for path in texts():
         for token in named_paths(path):
             if not stands(token, os.path.dirname(path), everything):
@@ -123,35 +126,39 @@ def targets():
 
 
 def promises():
-    """The rows of docs/PROOF_STATUS.md that name a function, with the crates that they name."""
+    """The rows of docs/PROOF_STATUS.md and README.md that name functions: where they are, cells and crates."""
     for number, cells in rows("docs/PROOF_STATUS.md"):
         if len(cells) == 5 and cells[0] != "Promise":
-            yield number, cells, [name.strip() for name in cells[2].split(",") if name.strip() not in ("", "all")]
+            crates = [name.strip() for name in cells[2].split(",") if name.strip() not in ("", "all")]
+            yield f"line {number}", cells, crates
+    for number, cells in rows("README.md", "What is proved"):
+        crates = re.findall(r"\(`(\w+)`\)", cells[1])
+        yield f"README.md, line {number}", [cells[0], re.sub(r"\(`\w+`\)", "", cells[1]), "", "", "proved"], crates
 
 
 def proof_rows():
-    for number, cells, crates in promises():
+    for where, cells, crates in promises():
         for crate in crates:
             if crate not in sources.below:
-                yield f"line {number}: there is no crate {crate}"
+                yield f"{where}: there is no crate {crate}"
         if not re.match(r"proved|tested|measured|open|by their signatures", cells[4]):
-            yield f"line {number}: the state {cells[4]}"
+            yield f"{where}: the state {cells[4]}"
 
 
 def names():
     """Each name of the second column is declared in the row's crates; a definition may stand below them."""
-    for number, cells, crates in promises():
+    for where, cells, crates in promises():
         for token in ticks(cells[1]):
             if "/" in token or " " in token or "*" in token or ".." in token:
                 continue
             for word in words_of(token):
                 if not sources.declares(crates or list(sources.below), word):
-                    yield f"line {number}: {word} of {token} is not in {', '.join(crates)}"
+                    yield f"{where}: {word} of {token} is not in {', '.join(crates)}"
 
 
 def clauses():
     """In `CLAUSE`, .. of `FUNCTION`, .. each of the first stands in the contract of one of the second."""
-    for number, cells, crates in promises():
+    for where, cells, crates in promises():
         for part in cells[1].split(";"):
             left, of, right = part.partition(" of ")
             holders = ticks(right)
@@ -161,18 +168,18 @@ def clauses():
             for token in ticks(left):
                 word = words_of(token)[-1]
                 if "/" not in token and not re.search(rf"\b{word}\b", known):
-                    yield f"line {number}: {word} stands in no contract of {', '.join(holders)}"
+                    yield f"{where}: {word} stands in no contract of {', '.join(holders)}"
 
 
 def edits():
     """The edits that a row names are there, in its crates or those in brackets; and each edit is named by some row."""
     named = set()
-    for number, cells, crates in promises():
+    for where, cells, crates in promises():
         for token in ticks(cells[3]):
             homes = crates + re.findall(r"\((\w+)\)", cells[3])
             named |= {(home, token) for home in homes}
             if not any(token in sources.edits(home) or sources.declares([home], token) for home in homes):
-                yield f"line {number}: there is no edit {token}"
+                yield f"{where}: there is no edit {token}"
     for crate in sources.below:
         for edit in sorted(sources.edits(crate)):
             if (crate, edit) not in named:
@@ -196,6 +203,11 @@ def crates():
         yield f"crates.txt and crates/ differ by {name}"
     architecture = read("docs/ARCHITECTURE.md")
     each = " ".join(cells[0] for _, cells in rows("docs/PROOF_STATUS.md", "Each crate"))
+    heads = re.findall(r"^## (.*)$", read("docs/PROOF_STATUS.md"), re.M)
+    for number, cells in rows("docs/PROOF_STATUS.md", "Each crate"):
+        for section in cells[2].split("; ") if "`" in cells[0] and "`" not in cells[2] else ():
+            if section not in heads:
+                yield f"docs/PROOF_STATUS.md, line {number}: there is no section {section}"
     for name in sources.below:
         if f"**{name}**" not in architecture:
             yield f"docs/ARCHITECTURE.md has no paragraph on {name}"
@@ -311,10 +323,10 @@ def fault_lines():
 
 def usage():
     """The form of the command is the program's in each text that has it."""
-    form = re.search(r'"usage: onvm (.*?)"', sources.text("onvm_top"))
-    for path in ("README.md", "docs/FORMATS.md"):
-        if f"./onvm {form[1]}" not in read(path):
-            yield f"{path} has not: ./onvm {form[1]}"
+    for form in set(re.findall(r'"usage: onvm (.*?)"', sources.text("onvm_top"))) or {"?"}:
+        for path in ("README.md", "docs/FORMATS.md"):
+            if f"./onvm {form}" not in read(path).replace("`", "\n").split("\n"):
+                yield f"{path} has not: ./onvm {form}"
 
 
 def lengths():
@@ -330,11 +342,11 @@ CHECKS = {
     "links": links,
     "paths": paths,
     "make targets": targets,
-    "docs/PROOF_STATUS.md, rows": proof_rows,
-    "docs/PROOF_STATUS.md, functions and clauses": names,
-    "docs/PROOF_STATUS.md, clauses of functions": clauses,
-    "docs/PROOF_STATUS.md, edits": edits,
-    "docs/PROOF_STATUS.md, wrong bodies": wrong_bodies,
+    "rows of docs/PROOF_STATUS.md": proof_rows,
+    "functions and clauses that are proved": names,
+    "clauses of functions that are proved": clauses,
+    "must-fail edits": edits,
+    "wrong bodies": wrong_bodies,
     "crates": crates,
     "READMEs of crates, of 15 to 40 lines": readmes,
     "examples": examples,
