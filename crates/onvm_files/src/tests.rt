@@ -43,7 +43,7 @@ fn a_real_file_gives_what_was_written(rt: HostRuntime) -> Result<(), Fail> {
     std::fs::remove_file(&rt, name)?;
     assert_eq!(rt; host.open_input(name).err(), Some(HostFault::Failed));
     assert_eq!(rt; host.create_output("/tmp").err(), Some(HostFault::Failed));
-    assert_eq!(rt; host.say(b"onvm_files\n"), Ok(10));
+    assert_eq!(rt; host.say(b"onvm_files\n"), Ok(11));
     Ok(())
 }
 
@@ -53,7 +53,7 @@ fn standard_output_is_an_output(rt: HostRuntime) -> Result<(), Fail> {
     let mut host = FileHost::make(rt);
     for name in ["/dev/stdout", "/dev/fd/1", "/proc/self/fd/1"] {
         let mut output = host.create_output(name)?;
-        assert_eq!(rt; output.put(b"onvm_files\n"), Ok(10));
+        assert_eq!(rt; output.put(b"onvm_files\n"), Ok(11));
         assert_eq!(rt; host.keep(output), Ok(()));
     }
     Ok(())
