@@ -29,42 +29,13 @@ export ONVM_PROGRAM=$onvm
 folder=$(mktemp -d "$([ -w /dev/shm ] && echo /dev/shm || echo /tmp)/onvm-profile-XXXXXX")
 trap 'rm -rf "$folder"' EXIT
 
-# Each symbol with its part of the time, as `percent|library|symbol`, from what perf sampled.
-symbols() {
-    perf report -i "$1" --stdio -F overhead,dso,symbol 2>/dev/null |
-        sed -n 's/^ *\([0-9.]*\)%  *\([^ ]*\)  *\[.\] \(.*[^ ]\) *$/\1|\2|\3/p'
-}
-
-# What kind of work a symbol does: the kernel's and the C library's by their names, ours by the crate.
-grouped() {
-    awk -F'|' '
-    function group(library, symbol) {
-        if (library ~ /kernel/) {
-            if (symbol ~ /clear_page|clear_huge|clear_user|folio_zero/) return "kernel: clears pages"
-            if (symbol ~ /rep_movs|copy_|memcpy/) return "kernel: copies"
-            if (symbol ~ /sched|futex|wake|idle|yield|nanosleep|hrtimer/) return "kernel: threads"
-            return "kernel: faults and the rest"
-        }
-        if (library ~ /libc|ld-linux/) {
-            if (symbol ~ /memmove|memcpy|memset/) return "libc: moves and clears bytes"
-            if (symbol ~ /alloc|free|unlink_chunk|sysm|systrim/) return "libc: takes and gives memory"
-            return "libc: the rest"
-        }
-        if (symbol ~ /^[a-z_0-9]+::/) { sub(/::.*/, "", symbol); return "crate " symbol }
-        return library ": " symbol
-    }
-    { sum[group($2, $3)] += $1 }
-    END { for (name in sum) if (sum[name] >= 0.3) printf "%6.1f %%  %s\n", sum[name], name }' | sort -rn
-}
-
 by_perf() {
     data=$folder/perf.data
     # shellcheck disable=SC2016 # The inner shell is to read these.
-    perf record -q -e cpu-clock -F 10000 -o "$data" -- bash -c '
-        for ((i = 0; i < $1; i++)); do "${@:2}" >/dev/null || exit 1; done' - "$runs" "${words[@]}" 2>"$folder/said" ||
-        { cat "$folder/said" >&2 && return 1; }
-    echo "by kind of work:" && symbols "$data" | grouped
-    echo "by function:" && symbols "$data" | head -n "$top" | awk -F'|' '{ printf "%6.2f %%  %-16s %s\n", $1, $2, $3 }'
+    perf record -q -g -e cpu-clock -F 10000 -o "$data" -- bash -c '
+        for ((i = 0; i < $1; i++)); do rm -f "$2"; "${@:3}" >/dev/null || exit 1; done' - "$runs" "$folder/out.pcap" "${words[@]}" \
+        2>"$folder/said" || { cat "$folder/said" >&2 && return 1; }
+    perf script -i "$data" -F comm,pid,tid,ip,sym,dso 2>/dev/null | python3 bench/samples.py "$(basename "$onvm" | cut -c1-15)" "$top"
 }
 
 by_callgrind() {
