@@ -35,7 +35,7 @@ test:
 	@log=$$(mktemp); \
 	trap 'status=$$?; sh checks/total.sh "$$status" "$$log"; rm -f "$$log"; exit "$$status"' EXIT; \
 	rt ci | tee "$$log"; \
-	for check in repository examples model schema plots install captures system growth changing whole output threads; do sh checks/$$check.sh | tee -a "$$log"; done
+	for check in repository examples model schema plots install captures system growth changing whole threads; do sh checks/$$check.sh | tee -a "$$log"; done
 
 soak: $(program)
 	@sh checks/threads.sh 1000 1000
