@@ -44,7 +44,7 @@ $(rt version)"
 mkdir -p "$out"
 rm -f "$out/$program" "$out/version"
 : >"$log"
-echo "build.sh: proving and building $program; the first time that takes some minutes" >&2
+echo "build.sh: proving and building $program; the first time that takes as long as README says" >&2
 for crate in $(below); do
     (cd "crates/$crate" && rt lib) </dev/null >>"$log" 2>&1 || give_up "$crate"
     echo "build.sh: $crate is proved" >&2
