@@ -1,14 +1,19 @@
 //! A host over real files and standard output. It tells nothing of content.
-ghost use Rattle.std.specs.Prelude.{◌≡◌, ◌↔◌, ◌<◌, ◌∷◌, ◌++◌, ⊤, ℕ, List, [], Option, None, Ok, IfOk, IsTrue, length};
+ghost use Rattle.std.specs.Prelude.{◌≡◌, ◌↔◌, ◌<◌, ◌∷◌, ◌++◌, ⊤, ℕ, List, [], Option, None, Ok, IfOk, IsOk, IsTrue, length};
 ghost use Rattle.std.specs.Io.{ReadsAtMost, WritesAtMost};
 ghost use Rattle.std.specs.Io.KnownBytes.{ReadConsumes, WriteAppends};
 ghost use Rattle.std.specs.IoError.{error_kind};
 ghost use Rattle.std.specs.Result.{result_ok};
+ghost use Rattle.onvm_host.specs.Deeds.{kept_or_failed};
 ghost use Rattle.onvm_host.specs.Story.{amounts_of, deeds_of};
+ghost use Rattle.onvm_files.specs.Places.{IsPartFor};
 ghost use Rattle.onvm_files.specs.Target.{IsStandardOutput, IsTargetOf};
 
+use crate::part::{Part, make_part, replace};
+use crate::place::{Place, place_of};
 use onvm_base::{Failed, Name};
 use onvm_host::{Amounts, Host, HostFault, Sink, Source, Story, copy_of};
+use std::alloc::Global;
 use std::fs::File;
 use std::io;
 use std::io::{BufWriter, ErrorKind, Print, Read, Write};
@@ -83,6 +88,10 @@ impl<F: Write + Drop, P: Print + Drop> Write for Target<F, P> {
 #[derive(Drop)]
 pub struct FileOutput<F: Write + Drop, P: Print + Drop> {
     writer: BufWriter<Target<F, P>>,
+    /// Where it writes a regular file.
+    part: Option<Part>,
+    /// Whether each put was taken.
+    is_whole: bool,
     name: Name,
     puts: Amounts,
 }
@@ -104,8 +113,10 @@ impl<F: Write + Drop, P: Print + Drop> Sink for FileOutput<F, P> {
             (⟦<BufWriter<Target<F, P>> as Write>⟧.contents self.new.writer) result piece.now }
         ensures named { self.new.name ≡ self.old.name }
         ensures told { amounts_of self.new.puts ≡ amounts_of self.old.puts ++ result_ok result ∷ [] }
+        ensures whole { IsTrue self.new.is_whole ↔ IsTrue self.old.is_whole × IsOk result }
     {
         let answer = count_of(self.writer.write(piece), piece);
+        self.is_whole &= answer.is_ok();
         self.puts.add(answer)
     }
 }
@@ -130,15 +141,39 @@ impl<R> FileHost<R> {
     }
 }
 
-// What a new output writes to. Standard output is not opened by its name, since that would write at
-// a place of its own, and what is said would overwrite it.
-fn target_of<R: Files + Print + Copy>(rt: &R, name: &str) -> io::Result<Target<R::File, R>>
-    ensures { IfOk result (λ target. IsTargetOf name.now rt.now target) }
+// What a new output writes to, and the part that it writes where its place is for a regular file.
+// Standard output is not opened by its name, since that would write at a place of its own, and what
+// is said would overwrite it.
+fn target_of<R: Files + Print + Copy>(
+    rt: &R,
+    alloc: Global,
+    name: &str,
+) -> io::Result<(Target<R::File, R>, Option<Part>)>
+    ensures { IfOk result (λ made. IsTargetOf name.now rt.now made.0) }
 {
     if is_standard_output(name) {
-        return Ok(Target::Standard(*rt));
+        return Ok((Target::Standard(*rt), None));
     }
-    Ok(Target::File(File::create(rt, name)?))
+    let place = place_of(rt, alloc, name)?;
+    let (file, part) = file_of(rt, alloc, name, place)?;
+    Ok((Target::File(file), part))
+}
+
+// The file that is written, which is a part exactly where a regular file is to have the name.
+fn file_of<R: Files>(
+    rt: &R,
+    alloc: Global,
+    name: &str,
+    place: Place,
+) -> io::Result<(R::File, Option<Part>)>
+    ensures { IfOk result (λ made. IsPartFor place made.1) }
+{
+    let (file, part) = match place {
+        Place::Free(path) => make_part(rt, alloc, path)?,
+        Place::Taken(path, found) => replace(rt, alloc, path, &found)?,
+        Place::Special(_) | Place::Open => return Ok((File::create(rt, name)?, None)),
+    };
+    Ok((file, Some(part)))
 }
 
 // Whether the system has the process's standard output under this name.
@@ -146,6 +181,18 @@ fn is_standard_output(name: &str) -> bool
     ensures { IsTrue result ↔ IsStandardOutput name.now }
 {
     matches!(name, "/dev/stdout" | "/dev/fd/1" | "/proc/self/fd/1")
+}
+
+// Ends what was written. Without a part it stands where it was written.
+fn settle<R: Files>(rt: &R, part: &Option<Part>, is_whole: bool) -> Result<(), Failed>
+    ensures whole { IsOk result → IsTrue is_whole }
+    ensures plain { part.now ≡ None → IsTrue is_whole → IsOk result }
+{
+    let is_kept = match part {
+        Some(part) => part.settle(rt, is_whole),
+        None => is_whole,
+    };
+    if is_kept { Ok(()) } else { Err(Failed) }
 }
 
 // Why a file was not opened or made.
@@ -205,8 +252,8 @@ where
         let Ok(mut writer) = BufWriter::with_capacity(alloc, BUFFER_BYTES, Target::Unmade) else {
             return Err(HostFault::Memory);
         };
-        match target_of(&self.rt, name) {
-            Ok(target) => *writer.get_mut() = target,
+        let (target, part) = match target_of(&self.rt, alloc, name) {
+            Ok(made) => made,
             Err(error) => {
                 let fault = fault_of(error);
                 if fault == HostFault::Failed {
@@ -214,10 +261,13 @@ where
                 }
                 return Err(fault);
             }
-        }
+        };
+        *writer.get_mut() = target;
         self.story.created(&copy);
         Ok(FileOutput {
             writer,
+            part,
+            is_whole: true,
             name: copy,
             puts: Amounts::None,
         })
@@ -227,11 +277,14 @@ where
         self.story.shut(&input.name, &input.takes);
     }
 
-    fn keep(&mut self, mut output: FileOutput<R::File, R>) -> Result<(), Failed> {
-        let answer = match output.writer.flush() {
-            Ok(()) => Ok(()),
-            Err(_) => Err(Failed),
-        };
+    // What was not taken whole leaves the file that was there.
+    fn keep(&mut self, mut output: FileOutput<R::File, R>) -> Result<(), Failed>
+        ensures whole { IsOk result → IsTrue output.is_whole }
+        ensures told { deeds_of self.new.story ≡
+            deeds_of self.old.story ++ kept_or_failed output.name (amounts_of output.puts) result ∷ [] }
+    {
+        let is_whole = output.is_whole && output.writer.flush().is_ok();
+        let answer = settle(&self.rt, &output.part, is_whole);
         self.story.kept(&output.name, &output.puts, answer)
     }
 

@@ -2,6 +2,8 @@
 #![tactic(auto)]
 
 mod file_host;
+mod part;
+mod place;
 mod sys_clock;
 #[cfg(test)]
 mod tests;

@@ -1,6 +1,8 @@
 //! What no clause says.
 use crate::{FileHost, SysClock};
 use onvm_host::{Clock, Host, HostFault, Sink, Source};
+use std::fs::Permissions;
+use std::os::unix::fs::{MetadataExt, PermissionsExt, symlink};
 use std::process;
 use std::test::Fail;
 
@@ -44,6 +46,38 @@ fn a_real_file_gives_what_was_written(rt: HostRuntime) -> Result<(), Fail> {
     assert_eq!(rt; host.open_input(name).err(), Some(HostFault::Failed));
     assert_eq!(rt; host.create_output("/tmp").err(), Some(HostFault::Failed));
     assert_eq!(rt; host.say(b"onvm_files\n"), Ok(11));
+    Ok(())
+}
+
+// How many bytes a real file gives, and which.
+fn read_back<H: Host>(host: &mut H, name: &str, into: &mut [u8]) -> Result<usize, Fail>
+    requires open { H.may_open host.old name.now }
+{
+    let mut input = host.open_input(name)?;
+    let took = input.take(into)?;
+    host.shut(input);
+    Ok(took)
+}
+
+#[test]
+fn what_was_there_stays_until_an_output_is_kept(rt: HostRuntime) -> Result<(), Fail> {
+    let mut host = FileHost::make(rt);
+    let mut into = [0u8; 4];
+    let number = process::id(rt.process());
+    let name = format!(in rt.alloc(); "/tmp/onvm_files_what_was_there_stays_{number}")?;
+    let link = format!(in rt.alloc(); "{name}_link")?;
+    write_and_read(&mut host, &name, &[7, 8], &mut into)?;
+    std::fs::set_permissions(&rt, &name, Permissions::from_mode(0o640))?;
+    symlink(&rt, &name, &link)?;
+    let mut output = host.create_output(&link)?;
+    assert_eq!(rt; output.put(&[9, 10, 11]), Ok(3));
+    assert_eq!(rt; read_back(&mut host, &name, &mut into)?, 2);
+    assert_eq!(rt; host.keep(output), Ok(()));
+    assert_eq!(rt; read_back(&mut host, &name, &mut into)?, 3);
+    assert_eq!(rt; into, [9, 10, 11, 0]);
+    assert_eq!(rt; std::fs::metadata(&rt, &name)?.mode() & 0o777, 0o640);
+    std::fs::remove_file(&rt, &link)?;
+    std::fs::remove_file(&rt, &name)?;
     Ok(())
 }
 
