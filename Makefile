@@ -35,7 +35,7 @@ test:
 	@log=$$(mktemp); \
 	trap 'status=$$?; sh checks/total.sh "$$status" "$$log"; rm -f "$$log"; exit "$$status"' EXIT; \
 	rt ci | tee "$$log"; \
-	for check in repository examples model schema plots install captures system growth changing whole threads; do sh checks/$$check.sh | tee -a "$$log"; done
+	for check in repository examples model schema plots install captures system output growth changing whole threads; do sh checks/$$check.sh | tee -a "$$log"; done
 
 soak: $(program)
 	@sh checks/threads.sh 1000 1000
@@ -46,7 +46,7 @@ run: $(program)
 	@sh checks/show.sh examples/01-one-frame
 
 bench: $(program) $(functions) $(windows) $(board) $(flows) $(passes) $(sessions)
-	@ONVM_PROGRAM=$(program) python3 bench/replay.py
+	@python3 bench/race.py --onvm $(program)
 	@$(functions) 1000
 	@$(windows) 1000
 	@$(board) 400

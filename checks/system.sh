@@ -70,13 +70,13 @@ starve 20000 "$room/small"
 summary 1 >"$room/line"
 judge 'one frame in as much memory' 0 "$room/said" is_emitted
 
-# It is emitted as it is, as far as a file may grow: up to 102,400 bytes. Shells count blocks of
-# different sizes.
+# A file may grow up to 102,400 bytes. Shells count blocks of different sizes.
 blocks=$((102400 / $(sh -c 'ulimit -f 1; head -c 4096 /dev/zero >"$1"; wc -c <"$1"' sh "$room/block" 2>/dev/null)))
+rm -f "$room/out"
 (ulimit -f "$blocks" && onvm "$room/capture" "$room/out") >"$room/said"
 status=$?
 echo 'fault write' >"$room/line"
-judge 'a limit on the size of files' 6 "$room/said" is_front "$room/out" "$room/capture" 102400
+judge 'a limit on the size of files' 6 "$room/said" is_missing "$room/out"
 
 # The line of the failed write finds no room behind the output, and must not go over its begin.
 : >"$room/line"
@@ -229,16 +229,18 @@ mkdir "$room/device"
 on_device() {
     rm -f "$room/left"
     unshare -m sh -c "mount -t tmpfs -o size=1m none \"\$1/device\" || exit 1
+        echo kept >\"\$1/device/out\"
         $1
         echo \$? >\"\$1/status\"
+        ls -A \"\$1/device\" | grep -v -x -e said -e other >\"\$1/beside\"
         cp \"\$1/device/out\" \"\$1/left\" 2>/dev/null
         cp \"\$1/device/said\" \"\$1/said\" 2>/dev/null
         exit 0" sh "$room" "$chain"
 }
 
-# is_left: of OUT the device has nothing, or what was to be emitted from its begin on.
+# is_left: OUT is what was there, and no part of the new one takes room beside it.
 is_left() {
-    [ ! -e "$room/left" ] || is_front "$room/left" "$room/capture" "$(wc -c <"$room/left")"
+    [ "$(cat "$room/left")" = kept ] && [ "$(cat "$room/beside")" = out ]
 }
 
 # shellcheck disable=SC2016 # The inner shell has these words.

@@ -39,11 +39,7 @@ def is_kept(status, old, emitted):
     there = bytes_of(OUT)
     if os.listdir(FOLDER) not in ([], ["out.pcap"]):
         return False
-    if status == 0:
-        return there == emitted
-    if status == 6:
-        return there is None or emitted.startswith(there)
-    return there == old
+    return there == (emitted if status == 0 else old)
 
 
 def judge(name, ended, statuses, emitted, frames, serial, old=None):
