@@ -1,5 +1,5 @@
 #!/usr/bin/env python3
-"""Judges every chain file of the examples and of docs/FORMATS.md by docs/chain.schema.json.
+"""Judges every chain file of the examples, of docs/FORMATS.md and of chain_file's tests by docs/chain.schema.json.
 
 A good chain file has to fit. Of the faulty ones each has to be refused, but for those of UNTOLD, whose faults no
 schema can tell: these have to fit. Prints what is wrong and ends with status 1, or else prints how many checks passed.
@@ -29,6 +29,21 @@ UNTOLD = {
     "same-guest": "it compares two items",
     "same-name": "it compares two items",
     "same-service": "it compares two items",
+}
+
+
+# The same of the rows of chain_file's tests, by what they put into the least file.
+UNTOLD_ROWS = {
+    ',"low":4,"high":4': "it compares two numbers",
+    ',"ports":1.0': "1.0 is a whole number to a schema",
+    ',"core":1}': "it compares two numbers",
+    '},{"name":"g","service":1,"core":0,"kind":"forward"}': "it compares two items",
+    '{"to":2}': "it names what stands elsewhere",
+    '{"out":1}': "it compares two numbers",
+    ',{"name":"a","steps":[{"to":1}]}],"default":"a"}': "it compares two items",
+    '{"chain":"b","match":{}} a': "it names what stands elsewhere",
+    '{"chain":"a","match":{"src_ports":[2,1]}} a': "it compares two numbers",
+    '{"chain":"a","match":{"port":3}} b': "it names what stands elsewhere",
 }
 
 
@@ -159,6 +174,30 @@ def is_documented(key, low, high, default):
     return ranges == [low, high] and same
 
 
+def tested():
+    """The rows of chain_file's tests of faults: what a row puts into the least file, and that file."""
+    with open("crates/chain_file/src/tests/refused.rt", encoding="utf-8") as file:
+        source = file.read()
+    least = re.search(r'r#"(\{\{"version".*?)"#', source)[1]
+    steps, end = (re.search(rf'const {name}: &str = r#"(.*?)"#', source)[1] for name in ("STEPS", "END"))
+    behind = re.search(r'r#"(\],"rules".*?)"#', source)[1]
+    row = r'\(\s*(?:r#"(.*?)"#|(STEPS)),\s*(?:r#"(.*?)"#,\s*|(END),\s*|"(\w)",\s*)?FileFault::'
+
+    def put(top="", functions="}", steps=steps, behind=end):
+        return json.loads(least.format(top=top, functions=functions, steps=steps, behind=behind))
+
+    for test in source.split("#[test]"):
+        for first, kept, second, kept_end, name in re.findall(row, test):
+            if "faults_of_the_top_object" in test:
+                yield first, put(top=first)
+            elif "faults_of_functions" in test:
+                yield first, put(functions=first)
+            elif "faults_of_chains_and_steps" in test:
+                yield (second if kept else first), put(steps=steps if kept else first, behind=end if kept_end else second)
+            elif "faults_of_rules" in test:
+                yield f"{first} {name}", put(behind=behind.format(second=first, name=name))
+
+
 def checks():
     """What was checked, and whether it is as it should be."""
     faulty = glob.glob("examples/39-refused-chain-files/*.json")
@@ -169,6 +208,11 @@ def checks():
         wanted = name_of(path) in UNTOLD
         yield f"{path} {'does not fit' if wanted else 'fits'}", fits(SCHEMA, read(path)) == wanted
     yield "examples/05-missing-keys/chain.json fits", not fits(SCHEMA, read("examples/05-missing-keys/chain.json"))
+    faults = list(tested())
+    yield "the tests have fewer rows than they had", len(faults) >= 27
+    for row, plan in faults:
+        yield f"the test's row {row} {'does not fit' if row in UNTOLD_ROWS else 'fits'}", fits(SCHEMA, plan) == (row in UNTOLD_ROWS)
+    yield "a row of the tests is gone", set(UNTOLD_ROWS) <= {row for row, _ in faults}
     rows = list(documented())
     yield "docs/FORMATS.md has fewer ranges than it had", len(rows) >= 18
     for row in rows:
