@@ -143,8 +143,8 @@ def chain_file_cases():
     return [
         Case("a chain file of 1 MiB, most of it white space", white, one, 1),
         Case("a plan with as many of everything as there may be", largest_plan(), one, 1),
-        Case("32,768 lists in each other", nested(b"[", b"]", b""), one, **shape),
-        Case("32,768 objects in each other", nested(b'{"a":', b"}", b"1"), one, **shape),
+        Case("32,768 lists in each other", nested(b"[", b"]", b""), one, **no_json),
+        Case("32,768 objects in each other", nested(b'{"a":', b"}", b"1"), one, **no_json),
         Case("32,768 lists that no bracket closes", b"[" * 32768, one, **no_json),
         Case("an object of 104,856 keys", many_keys(), one, **keys),
         Case("a text of 1 MiB", b'"' + b"\\u0041" * 174762 + b'"', one, **shape),
@@ -179,13 +179,14 @@ def small_ring_cases():
     """Rings and bursts of the smallest size, and reports of the largest."""
     eight = [function(number, "forward", number - 1) for number in range(1, 9)]
     thirty_two = [function(number, "forward", number % 8) for number in range(1, 33)]
-    one, four = [f"gen:7:{FRAMES}"], [f"gen:{port}:{FRAMES}" for port in range(4)]
+    # Where one frame at a time is on its way, each takes milliseconds.
+    one, few, four = [f"gen:7:{FRAMES}"], 4 * 1024, [f"gen:{port}:1024" for port in range(4)]
     logs = ["--records", "--throttle-log", "--shares"]
     return [
         Case("burst of 1", plan([function(1, "forward")], burst=1), one, FRAMES),
-        Case("rings, buffers and burst of the smallest size", plan(eight, **SMALLEST), four, 4 * FRAMES),
-        Case("the same through a loop of 32 hops", plan(loop(8), steps=[1], **SMALLEST), four, 4 * FRAMES),
-        Case("every line of a report, small rings", plan(eight, **SMALLEST), four, 4 * FRAMES, options=logs),
+        Case("rings, buffers and burst of the smallest size", plan(eight, **SMALLEST), four, few),
+        Case("the same through a loop of 32 hops", plan(loop(8), steps=[1], **SMALLEST), four, few),
+        Case("every line of a report, small rings", plan(eight, **SMALLEST), four, few, options=logs),
         Case("a tick in each round of 32 functions", plan(thirty_two, cores=8, burst=8, tick=1000), one, FRAMES, options=["--shares"]),
     ]
 
